@@ -1,0 +1,4 @@
+pub mod Faults
+pub mod Split
+pub mod Lines
+pub mod Fields
