@@ -1,4 +1,5 @@
 pub mod Faults
+pub mod Outcomes
 pub mod Split
 pub mod Lines
 pub mod Fields

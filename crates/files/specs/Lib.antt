@@ -1,0 +1,4 @@
+pub mod Reading
+pub mod Written
+pub mod Lawful
+pub mod Files
