@@ -1,33 +1,27 @@
 -- The two files: devices, and gates. Assumes nothing.
 use mathlib.Core.Path.{_≡_}
 use mathlib.Core.Logic.{_⊎_}
-use mathlib.Core.Bool.{Bool, true, false, cond, _&&_, _||_}
+use mathlib.Core.Bool.{Bool, true, false, cond, _||_}
 use mathlib.Core.List.{List, [], _∷_}
 use Prim.Native.Nat.{ℕ, _-_, _<_}
-use lib.Chars.{codes}
-use lib.Dec.{eqb, leb}
+use lib.Dec.{eqb}
 use lib.ListN.{length, take, getD}
 use Rattle.std.specs.declared.option.Option.{Option}
 use Rattle.std.specs.declared.option.Option.the-variants.{Some, None}
 use Rattle.cell.specs.declared.Device.{Device}
 use Rattle.cell.specs.declared.DeviceKind.{DeviceKind}
-use Rattle.cell.specs.declared.DeviceKind.the-variants.{N, P}
 use Rattle.cell.specs.declared.GateKind.{GateKind}
-use Rattle.cell.specs.declared.GateKind.the-variants.{Not, Buf, And, Or, Nand, Nor, Xor, Xnor}
 use Rattle.cell.specs.Lists.{In, Every}
 use Rattle.cell.specs.Circuits.{Circuit, Drawn, Gate, Intended, deviceNets, gateNets, Numbered}
 use Rattle.cell.specs.Waiting.{WaitsInRing, TooLarge}
 use Rattle.text.specs.declared.fault.Reason.{Reason}
 use Rattle.text.specs.declared.fault.Reason.the-variants.{OutputWithoutGate, WaitingRing, LargeComponent}
 use Rattle.records.specs.declared.NetAt.{NetAt}
+use Rattle.records.specs.Kinds.{deviceKinds, deviceWord, deviceTakes, gateKinds, gateWord, arity, gateTakes}
 use Rattle.records.specs.Formats.{Format}
 use Rattle.files.specs.Reading.{member, rail}
 
 -- The drawn file.
-
-abbrev pub deviceWord : DeviceKind → List ℕ
-deviceWord N = codes "N"
-deviceWord P = codes "P"
 
 -- a gate net and two channel ends
 abbrev pub deviceOf : DeviceKind → List ℕ → Device
@@ -41,9 +35,9 @@ pub data DrawnAtEnd (c : Drawn) : Option Reason → Type 0 where
 
 abbrev pub drawnFormat : Format DeviceKind Device
 drawnFormat = record {
-  kinds = N ∷ P ∷ [];
+  kinds = deviceKinds;
   word = deviceWord;
-  takes = λ k m. eqb m 3;
+  takes = deviceTakes;
   most = 256;
   item = deviceOf;
   kind = λ d. d .kind;
@@ -54,27 +48,6 @@ drawnFormat = record {
 }
 
 -- The intended file.
-
-abbrev pub gateWord : GateKind → List ℕ
-gateWord Not = codes "NOT"
-gateWord Buf = codes "BUF"
-gateWord And = codes "AND"
-gateWord Or = codes "OR"
-gateWord Nand = codes "NAND"
-gateWord Nor = codes "NOR"
-gateWord Xor = codes "XOR"
-gateWord Xnor = codes "XNOR"
-
--- how many inputs a gate of a kind may have
-abbrev pub arity : GateKind → ℕ → Bool
-arity Not m = eqb m 1
-arity Buf m = eqb m 1
-arity And m = leb 2 m && leb m 8
-arity Or m = leb 2 m && leb m 8
-arity Nand m = leb 2 m && leb m 8
-arity Nor m = leb 2 m && leb m 8
-arity Xor m = eqb m 2
-arity Xnor m = eqb m 2
 
 -- its inputs, and last its output
 abbrev pub gateOf : GateKind → List ℕ → Gate
@@ -114,9 +87,9 @@ pub data IntendedAtEnd (g : Intended) : Option Reason → Type 0 where
 
 abbrev pub intendedFormat : Format GateKind Gate
 intendedFormat = record {
-  kinds = Not ∷ Buf ∷ And ∷ Or ∷ Nand ∷ Nor ∷ Xor ∷ Xnor ∷ [];
+  kinds = gateKinds;
   word = gateWord;
-  takes = λ k m. leb 1 m && arity k (m - 1);
+  takes = gateTakes;
   most = 64;
   item = gateOf;
   kind = λ g. g .kind;

@@ -116,15 +116,15 @@ netsAt n (f ∷ fs) = andThen (netAt n f) (λ x. mapOk (λ xs. x ∷ xs) (netsAt
 abbrev pub nameAt : ℕ → Part → Result (List ℕ) Fault
 nameAt n f = cond (isName (f .bytes)) (Ok (f .bytes)) (Err (fault BadField n (f .place)))
 
--- the nets of a body record: their number comes before what they are
-abbrev pub itemAt : {K I : Type 0} → Format K I → ℕ → ℕ → K → List Part → Result (List NetAt) Fault
-itemAt f n p k fs = cond (f .takes k (length fs)) (netsAt n fs) (Err (fault FieldCount n p))
+-- the nets of a body record: how many there are comes before what they are
+abbrev pub netsCounted : (ℕ → Bool) → ℕ → ℕ → List Part → Result (List NetAt) Fault
+netsCounted takes n p fs = cond (takes (length fs)) (netsAt n fs) (Err (fault FieldCount n p))
 
 abbrev pub entryOf : {K I : Type 0} → Format K I → ℕ → ℕ → Word K → List Part → Result (Entry K) Fault
 entryOf f n p Cell fs = andThen (oneField n p fs) (λ x. mapOk cell (nameAt n x))
 entryOf f n p In fs = andThen (oneField n p fs) (λ x. mapOk input (netAt n x))
 entryOf f n p Out fs = andThen (oneField n p fs) (λ x. mapOk output (netAt n x))
-entryOf f n p (Item k) fs = mapOk (item k) (itemAt f n p k fs)
+entryOf f n p (Item k) fs = mapOk (item k) (netsCounted (f .takes k) n p fs)
 entryOf f n p End fs = cond (isNil fs) (Ok finish) (Err (fault FieldCount n p))
 
 -- the record of line n, which starts at place p: its word, its turn, its fields
