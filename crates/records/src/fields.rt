@@ -1,6 +1,8 @@
 // Single fields: words, net numbers and names.
 ghost use mathlib.Core.Path.{_≡_};
-ghost use Prim.Native.Nat.{ℕ};
+ghost use Prim.Native.Nat.{ℕ, _≤_};
+ghost use lib.ListN.{length};
+ghost use Rattle.std.specs.Vec.{made};
 ghost use Rattle.std.specs.shelf.Text.{sameBytes};
 ghost use Rattle.text.specs.Outcomes.{mapOk};
 ghost use Rattle.text.specs.Lines.{partOf};
@@ -78,7 +80,8 @@ pub fn read_net<'a>(line: &Line<'a>, field: Field<'a>) -> Result<Net<'a>, Fault>
 }
 
 pub fn read_name<'a>(line: &Line<'a>, field: Field<'a>) -> Result<Field<'a>, Fault>
-    ensures { λ r. ⌜ mapOk fieldBytes r ≡ nameAt (now (line .entry) .number) (partOf (field .entry)) ⌝ }
+    ensures short { λ r. ⌜ made r (λ f. length (now (f .bytes)) ≤ 16) ⌝ }
+    ensures gives { λ r. ⌜ mapOk fieldBytes r ≡ nameAt (now (line .entry) .number) (partOf (field .entry)) ⌝ }
 {
     if is_name(field.bytes) { Ok(field) } else { Err(Fault::new(Reason::BadField, line.number, field.place)) }
 }
