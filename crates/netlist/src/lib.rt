@@ -2,3 +2,4 @@
 pub mod body;
 pub mod netlist;
 pub mod reader;
+pub mod reading;

@@ -2,6 +2,8 @@
 ghost use Prim.Native.Nat.{_≤_};
 ghost use Rattle.std.specs.Of.Vec.{vec-cap};
 
+pub mod gather;
+
 #[derive(Drop)]
 pub struct Netlist<B> {
     pub(crate) name: Vec<u8>,

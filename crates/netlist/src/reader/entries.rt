@@ -4,10 +4,9 @@ ghost use Prim.Native.Nat.{ℕ, _+_, _≤_};
 ghost use lib.ListN.{length};
 ghost use Rattle.std.specs.Vec.{made};
 ghost use Rattle.text.specs.Outcomes.{mapOk};
-ghost use Rattle.text.specs.Lines.{fieldsOf, linesFrom};
+ghost use Rattle.text.specs.Lines.{fieldsOf};
 ghost use Rattle.text.specs.Fields.{fieldsLeft};
 ghost use Rattle.records.specs.Records.{wordOf, firstWord, afterFirst, entryOf, recordOf};
-ghost use Rattle.files.specs.Reading.{nothingAfter};
 ghost use Rattle.netlist.specs.Circuits.{plain, Fits};
 use super::Reader;
 use crate::body::Body;
@@ -42,7 +41,7 @@ fn read_word<'a, B: Body<'a>>(bytes: &[u8]) -> Option<Word<B::Kind>>
 }
 
 // The word of a line, its first field.
-fn first_word<'a, B: Body<'a>>(line: &Line<'a>, fields: &mut Fields<'a>) -> Result<Word<B::Kind>, Fault>
+pub(crate) fn first_word<'a, B: Body<'a>>(line: &Line<'a>, fields: &mut Fields<'a>) -> Result<Word<B::Kind>, Fault>
     ensures word { λ r. ⌜ r ≡ firstWord (B·Body .format) (now (line .entry) .number) (now (line .entry) .start) (fieldsLeft (now (fields .entry))) ⌝ }
     ensures left { λ r. ⌜ made r (λ _. fieldsLeft (now (fields .exit)) ≡ afterFirst (fieldsLeft (now (fields .entry)))) ⌝ }
 {

@@ -1,0 +1,101 @@
+-- One line of a reading, by what each layer said of it. Assumes nothing.
+use mathlib.Core.Path.{_≡_, refl, sym, ap, _∙_}
+use mathlib.Core.Bool.{Bool, true, false, cond}
+use mathlib.Core.List.{List, _∷_}
+use native.Mathlib.Omega.{arith}
+use Prim.Native.Nat.{ℕ, _+_}
+use lib.ListN.{length, drop}
+use Rattle.std.specs.declared.option.Option.{Option}
+use Rattle.std.specs.declared.option.Option.the-variants.{Some, None}
+use Rattle.std.specs.declared.result.Result.{Result}
+use Rattle.std.specs.declared.result.Result.the-variants.{Ok, Err}
+use Rattle.std.proofs.shelf.Tests.{cond-true}
+use Rattle.cell.specs.Circuits.{Circuit}
+use Rattle.text.specs.declared.fault.Fault.{Fault}
+use Rattle.text.specs.declared.fault.Reason.the-variants.{MalformedLine, OutOfTurn}
+use Rattle.text.specs.Faults.{fault}
+use Rattle.text.specs.Outcomes.{andThen, mapOk}
+use Rattle.text.specs.Lines.{formed, linesFrom, fieldsOf, NextLine}
+use Rattle.text.specs.declared.lines.Line.{Line}
+use Rattle.text.proofs.Splits.{split-cons}
+use Rattle.records.specs.declared.Stage.{Stage}
+use Rattle.records.specs.declared.Stage.the-variants.{Opening, Inputs, Outputs, Body, Closed}
+use Rattle.records.specs.declared.Word.{Word}
+use Rattle.records.specs.Formats.{Format}
+use Rattle.records.specs.Records.{Entry, firstWord, recordOf}
+use Rattle.files.specs.Reading.{Ended, ifClosed, added, lineRead, linesRead, lineAfter, nothingAfter}
+
+-- a line in form, and what follows it
+pub record Taken (text : List ℕ) (p : ℕ) (l : List ℕ) (q : ℕ) : Type 0 where
+  pub next : q ≡ p + length l + 1
+  pub lines : linesFrom text p ≡ l ∷ linesFrom text q
+  pub good : formed l ≡ true
+
+pub taken : (text : List ℕ) (p n : ℕ) (l : Line) (q m : ℕ) → NextLine text p n (Ok (Some l)) q m → Taken text p (l .bytes .now) q
+taken text p n l q m h = record { next = h .2; lines = h .5; good = h .6 }
+
+if-closed : {X : Type 0} (s : Stage) (x y : X) → true ≡ ifClosed s true false → ifClosed s x y ≡ x
+if-closed Opening x y h = let z : _≡_ {A = ℕ} 0 1 = cc in absurd (omega arith)
+if-closed Inputs x y h = let z : _≡_ {A = ℕ} 0 1 = cc in absurd (omega arith)
+if-closed Outputs x y h = let z : _≡_ {A = ℕ} 0 1 = cc in absurd (omega arith)
+if-closed Body x y h = let z : _≡_ {A = ℕ} 0 1 = cc in absurd (omega arith)
+if-closed Closed x y h = refl
+
+if-open : {X : Type 0} (s : Stage) (x y : X) → false ≡ ifClosed s true false → ifClosed s x y ≡ y
+if-open Opening x y h = refl
+if-open Inputs x y h = refl
+if-open Outputs x y h = refl
+if-open Body x y h = refl
+if-open Closed x y h = let z : _≡_ {A = ℕ} 0 1 = cc in absurd (omega arith)
+
+module _ {K I : Type 0} (f : Format K I) {text : List ℕ} {p : ℕ} {l : List ℕ} {q : ℕ} (k : Taken text p l q) (n : ℕ) where
+  module _ (s : Stage) (c : Circuit I) where
+    -- the text past this line, after END or not
+    abbrev goesOn : Stage × Circuit I → Result (Ended I) Fault
+    goesOn r = ifClosed (r .0) (Ok (record { circuit = r .1; line = n; place = p; next = q; rest = linesFrom text q })) (linesRead f (r .0) (r .1) (n + 1) q (linesFrom text q))
+
+    abbrev after : ℕ → List (List ℕ) → Stage × Circuit I → Result (Ended I) Fault
+    after o ls r = ifClosed (r .0) (Ok (record { circuit = r .1; line = n; place = p; next = o; rest = ls })) (linesRead f (r .0) (r .1) (n + 1) o ls)
+
+    abbrev taking : Stage × Entry K → Result (Stage × Circuit I) Fault
+    taking r = mapOk (λ d. (r .0, d)) (added f c n p (r .1))
+
+    by-record : linesRead f s c n p (linesFrom text p) ≡ andThen (andThen (recordOf f s n p (fieldsOf p l)) taking) goesOn
+    by-record =
+        ap (linesRead f s c n p) (k .lines)
+        ∙ split-cons (λ ls. linesRead f s c n p (l ∷ ls) ≡ andThen (lineRead f s c n p l) (after (p + length l + 1) ls)) (λ m ms. refl) 10 (drop q text)
+        ∙ ap (λ o. andThen (lineRead f s c n p l) (after o (linesFrom text q))) (sym (k .next))
+        ∙ ap (λ r. andThen r goesOn) (cond-true (formed l) (andThen (recordOf f s n p (fieldsOf p l)) taking) (Err (fault MalformedLine n p)) (k .good))
+
+    pub record-declined : (e : Fault) → Err e ≡ recordOf f s n p (fieldsOf p l) → linesRead f s c n p (linesFrom text p) ≡ Err e
+    record-declined e h = by-record ∙ ap (λ r. andThen (andThen r taking) goesOn) (sym h)
+
+    by-added : (t : Stage) (e : Entry K) → Ok (t, e) ≡ recordOf f s n p (fieldsOf p l) → linesRead f s c n p (linesFrom text p) ≡ andThen (mapOk (λ d. (t, d)) (added f c n p e)) goesOn
+    by-added t e h = by-record ∙ ap (λ r. andThen (andThen r taking) goesOn) (sym h)
+
+    module _ (t : Stage) (e : Entry K) (is : Ok (t, e) ≡ recordOf f s n p (fieldsOf p l)) where
+      pub add-declined : (x : Fault) → Err x ≡ added f c n p e → linesRead f s c n p (linesFrom text p) ≡ Err x
+      add-declined x g = by-added t e is ∙ ap (λ r. andThen (mapOk (λ d. (t, d)) r) goesOn) (sym g)
+
+      pub line-done : (d : Circuit I) → Ok d ≡ added f c n p e → false ≡ ifClosed t true false → linesRead f s c n p (linesFrom text p) ≡ linesRead f t d (n + 1) q (linesFrom text q)
+      line-done d g o = by-added t e is ∙ ap (λ r. andThen (mapOk (λ d. (t, d)) r) goesOn) (sym g) ∙ if-open t _ _ o
+
+      pub end-done : (d : Circuit I) → Ok d ≡ added f c n p e → true ≡ ifClosed t true false
+        → linesRead f s c n p (linesFrom text p) ≡ Ok (record { circuit = d; line = n; place = p; next = q; rest = linesFrom text q })
+      end-done d g o = by-added t e is ∙ ap (λ r. andThen (mapOk (λ d. (t, d)) r) goesOn) (sym g) ∙ if-closed t _ _ o
+
+  -- a line after END
+  abbrev turnedDown : Result (Word K) Fault → Fault
+  turnedDown r = elim r [ Ok w ↦ fault OutOfTurn n p | Err e ↦ e ]
+
+  line-follows : nothingAfter f n p (linesFrom text p) ≡ Err (turnedDown (firstWord f n p (fieldsOf p l)))
+  line-follows =
+      ap (nothingAfter f n p) (k .lines)
+      ∙ split-cons (λ ls. nothingAfter f n p (l ∷ ls) ≡ Err (lineAfter f n p l)) (λ m ms. refl) 10 (drop q text)
+      ∙ ap Err (cond-true (formed l) (turnedDown (firstWord f n p (fieldsOf p l))) (fault MalformedLine n p) (k .good))
+
+  pub word-unknown : (e : Fault) → Err e ≡ firstWord f n p (fieldsOf p l) → nothingAfter f n p (linesFrom text p) ≡ Err e
+  word-unknown e h = line-follows ∙ ap (λ r. Err (turnedDown r)) (sym h)
+
+  pub word-late : (w : Word K) → Ok w ≡ firstWord f n p (fieldsOf p l) → nothingAfter f n p (linesFrom text p) ≡ Err (fault OutOfTurn n p)
+  word-late w h = line-follows ∙ ap (λ r. Err (turnedDown r)) (sym h)
