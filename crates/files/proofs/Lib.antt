@@ -1,0 +1,10 @@
+pub mod Facts
+pub mod Members
+pub mod Read
+pub mod Sound
+pub mod Short
+pub mod Readable
+pub mod Law
+pub mod DrawnFacts
+pub mod IntendedFacts
+pub mod Texts

@@ -43,6 +43,14 @@ pub fn gate_kind(bytes: &[u8]) -> Option<GateKind>
     }
 }
 
+impl Nets {
+    pub fn as_slice(&self) -> &[NetAt]
+        ensures { λ r. ⌜ now r ≡ netList (now (self .entry)) ⌝ }
+    {
+        &self.at[0..self.count.min(9)]
+    }
+}
+
 // Whether a gate may have so many nets, its inputs and its output.
 fn takes(kind: GateKind, count: usize) -> bool
     ensures { λ r. ⌜ r ≡ gateTakes kind count ⌝ }

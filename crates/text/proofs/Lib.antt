@@ -1,2 +1,4 @@
 pub mod Splits
 pub mod Scan
+pub mod Steps
+pub mod Rows

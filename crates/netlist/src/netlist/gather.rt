@@ -19,7 +19,7 @@ use text::fault::Reason;
 use text::lines::Line;
 
 // Whether a net is in a list of nets.
-pub(crate) fn listed(nets: &[u8], net: u8) -> bool
+pub fn listed(nets: &[u8], net: u8) -> bool
     ensures { λ r. ⌜ r ≡ member net (now (nets .entry)) ⌝ }
 {
     nets.contains(&net)
