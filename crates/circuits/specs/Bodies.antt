@@ -2,7 +2,11 @@
 use mathlib.Core.List.{List, map}
 use lib.ListN.{take}
 use Rattle.std.specs.Of.Vec.{vec-items}
-use Rattle.cell.specs.Circuits.{Gate}
+use Rattle.cell.specs.declared.Device.{Device}
+use Rattle.cell.specs.Circuits.{Gate, Drawn}
+use Rattle.cell.specs.Waiting.{EvaluationOrder}
+use Rattle.order.specs.Found.{orderOf}
+use Rattle.circuits.specs.declared.devices.Devices.{Devices}
 use Rattle.circuits.specs.declared.gates.LogicGate.{LogicGate}
 use Rattle.circuits.specs.declared.gates.Gates.{Gates}
 
@@ -11,3 +15,10 @@ gateHeld g = record { kind = g .kind; inputs = take (g .count) (g .inputs); outp
 
 abbrev pub gatesOf : Gates → List Gate
 gatesOf b = map gateHeld (vec-items (b .gates))
+
+abbrev pub devicesOf : Devices → List Device
+devicesOf b = vec-items (b .devices)
+
+-- the order is one in which the components of the circuit can be evaluated
+abbrev pub Ordered : Devices → Drawn → Type 0
+Ordered b c = EvaluationOrder c (orderOf (b .order))

@@ -95,7 +95,7 @@ gate-nets k xs h =
 
 -- the test of what is known
 
-driven-by : (earlier : List Gate) (x : ℕ) → driven earlier x ≡ true → (e : Gate) × In e earlier × (x ≡ e .output)
+pub driven-by : (earlier : List Gate) (x : ℕ) → driven earlier x ≡ true → (e : Gate) × In e earlier × (x ≡ e .output)
 driven-by [] x h = off-on h
 driven-by (e ∷ es) x h =
     ⊎-elim
@@ -103,7 +103,7 @@ driven-by (e ∷ es) x h =
     (λ a. let d = driven-by es x a in (d .0, inr (d .1), d .2))
     (or-cases (eqb x (e .output)) (driven es x) h)
 
-not-driven : (earlier : List Gate) (x : ℕ) → driven earlier x ≡ false → (d : Gate) → In d earlier → ¬ (x ≡ d .output)
+pub not-driven : (earlier : List Gate) (x : ℕ) → driven earlier x ≡ false → (d : Gate) → In d earlier → ¬ (x ≡ d .output)
 not-driven [] x h d i = absurd i
 not-driven (e ∷ es) x h d i =
     let p = or-parts (eqb x (e .output)) (driven es x) h in

@@ -9,6 +9,7 @@ use Rattle.std.specs.declared.option.Option.{Option}
 use Rattle.std.specs.declared.option.Option.the-variants.{Some, None}
 use Rattle.std.specs.declared.result.Result.{Result}
 use Rattle.std.specs.declared.result.Result.the-variants.{Ok, Err}
+use Rattle.std.specs.Vec.{made}
 use Rattle.std.proofs.shelf.Tests.{cond-true}
 use Rattle.cell.specs.Circuits.{Circuit}
 use Rattle.text.specs.declared.fault.Fault.{Fault}
@@ -24,6 +25,10 @@ use Rattle.records.specs.declared.Word.{Word}
 use Rattle.records.specs.Formats.{Format}
 use Rattle.records.specs.Records.{Entry, firstWord, recordOf}
 use Rattle.files.specs.Reading.{Ended, ifClosed, added, lineRead, linesRead, lineAfter, nothingAfter}
+
+pub none-made : {X E : Type 0} (r : Result X E) (e : E) (Q : X → Type 0) → r ≡ Err e → made r Q
+none-made (Ok x) e Q h = let z : _≡_ {A = ℕ} 0 1 = cc in absurd (omega arith)
+none-made (Err x) e Q h = tt
 
 -- a line in form, and what follows it
 pub record Taken (text : List ℕ) (p : ℕ) (l : List ℕ) (q : ℕ) : Type 0 where

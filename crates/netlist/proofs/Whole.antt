@@ -6,6 +6,7 @@ use Rattle.std.specs.declared.option.Option.{Option}
 use Rattle.std.specs.declared.option.Option.the-variants.{Some, None}
 use Rattle.std.specs.declared.result.Result.{Result}
 use Rattle.std.specs.declared.result.Result.the-variants.{Ok, Err}
+use Rattle.std.specs.Vec.{made}
 use Rattle.cell.specs.Circuits.{Circuit}
 use Rattle.text.specs.declared.fault.Fault.{Fault}
 use Rattle.text.specs.declared.fault.Reason.{Reason}
@@ -18,6 +19,10 @@ use Rattle.netlist.specs.Endings.{linesLeft, Past, UpTo}
 
 ok-err : {X E Z : Type 0} (e : E) (x : X) → _≡_ {A = Result X E} (Ok x) (Err e) → Z
 ok-err e x h = let z : _≡_ {A = ℕ} 0 1 = cc in absurd (omega arith)
+
+pub every-made : {X E : Type 0} (r : Result X E) (Q : Type 0) → Q → made r (λ _. Q)
+every-made (Ok x) Q h = h
+every-made (Err e) Q h = tt
 
 with-map : {X Y E : Type 0} (r : Result X E) (y : Y) → okWith r y ≡ mapOk (λ _. y) r
 with-map (Ok x) y = refl

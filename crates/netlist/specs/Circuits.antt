@@ -1,6 +1,4 @@
 -- The circuit that a netlist holds, and the record that a line is. Assumes nothing.
-use mathlib.Core.Path.{_≡_}
-use mathlib.Core.Bool.{true}
 use mathlib.Core.List.{List}
 use Prim.Native.Nat.{ℕ, _≤_}
 use lib.ListN.{length}
@@ -10,7 +8,7 @@ use Rattle.records.specs.declared.NetAt.{NetAt}
 use Rattle.records.specs.declared.Record.{Record}
 use Rattle.records.specs.declared.Record.the-variants as records
 use Rattle.records.specs.Formats.{Format}
-use Rattle.records.specs.Records.{Entry, cell, input, output, item, finish}
+use Rattle.records.specs.Records.{Entry, cell, input, output, item, finish, Proper}
 use Rattle.records.specs.Shown.{fieldBytes, netShown}
 use Rattle.netlist.specs.declared.netlist.Netlist.{Netlist}
 
@@ -27,10 +25,10 @@ plain shown (records.Out x) = output (netShown x)
 plain shown (records.Item r) = itemEntry (shown r)
 plain shown records.End = finish
 
--- a name that fits, and as many nets as its kind takes
+-- a name that fits, and a body record as it is read
 abbrev pub Fits : {K I : Type 0} → Format K I → Entry K → Type 0
 Fits f (cell bs) = length bs ≤ 16
 Fits f (input x) = Unit {0}
 Fits f (output x) = Unit {0}
-Fits f (item k xs) = f .takes k (length xs) ≡ true
+Fits f (item k xs) = Proper f (k, xs)
 Fits f finish = Unit {0}

@@ -2,6 +2,7 @@
 ghost use mathlib.Core.Path.{_≡_};
 ghost use Prim.Native.Nat.{_≤_};
 ghost use lib.ListN.{length};
+ghost use Rattle.std.specs.Vec.{made};
 ghost use Rattle.text.specs.Outcomes.{okWith};
 ghost use Rattle.files.specs.Reading.{nothingAfter, Reads};
 ghost use Rattle.netlist.specs.Circuits.{circuitOf};
@@ -16,7 +17,8 @@ use text::lines::reading::sized;
 
 // Gathers the records up to END.
 fn read_to_end<'a, B: Body<'a>>(reader: &mut Reader<'a>, netlist: &mut Netlist<B>) -> Result<(), Fault>
-    ensures { λ r. ⌜ UpTo (B·Body .format) (goesOn (B·Body .format) (now (reader .entry)) (circuitOf (B·Body .items) (now (netlist .entry)))) r (circuitOf (B·Body .items) (now (netlist .exit))) (now (reader .exit) .lines) ⌝ }
+    ensures kept { λ r. ⌜ made r (λ _. B·Body .Kept (now (netlist .exit) .body) (circuitOf (B·Body .items) (now (netlist .exit)))) ⌝ }
+    ensures gives { λ r. ⌜ UpTo (B·Body .format) (goesOn (B·Body .format) (now (reader .entry)) (circuitOf (B·Body .items) (now (netlist .entry)))) r (circuitOf (B·Body .items) (now (netlist .exit))) (now (reader .exit) .lines) ⌝ }
 {
     loop {
         let Some(line) = reader.lines.next_line()? else {
@@ -44,7 +46,8 @@ fn finish<'a, B: Body<'a>>(reader: &mut Reader<'a>) -> Result<(), Fault>
 
 // Reads a text; what the netlist held before is gone.
 pub fn read<'a, B: Body<'a>>(text: &'a [u8], netlist: &mut Netlist<B>) -> Result<(), Fault>
-    ensures { λ r. ⌜ Reads (B·Body .format) (now (text .entry)) (okWith r (circuitOf (B·Body .items) (now (netlist .exit)))) ⌝ }
+    ensures kept { λ r. ⌜ made r (λ _. B·Body .Kept (now (netlist .exit) .body) (circuitOf (B·Body .items) (now (netlist .exit)))) ⌝ }
+    ensures gives { λ r. ⌜ Reads (B·Body .format) (now (text .entry)) (okWith r (circuitOf (B·Body .items) (now (netlist .exit)))) ⌝ }
 {
     sized(text)?;
     netlist.clear();

@@ -4,6 +4,8 @@ ghost use Prim.Native.Nat.{_<_, _≤_};
 ghost use lib.ListN.{length};
 ghost use Rattle.std.specs.Vec.{made};
 ghost use Rattle.cell.specs.Circuits.{Gate};
+ghost use Rattle.records.specs.Kinds.{gateKinds, gateWord};
+ghost use Rattle.records.specs.Records.{looked};
 ghost use Rattle.records.specs.Shown.{gateShown};
 ghost use Rattle.files.specs.Reading.{values};
 ghost use Rattle.files.specs.Files.{intendedFormat, gateOf, driven, isKnown, gateBarred};
@@ -50,7 +52,8 @@ impl Gates {
     fn drive(&self, net: u8) -> bool
         ensures { λ r. ⌜ r ≡ driven (gatesOf (now (self .entry))) net ⌝ }
     {
-        for gate in self.gates.as_slice() {
+        let gates = self.gates.as_slice();
+        for gate in gates {
             if gate.output == net {
                 return true;
             }
@@ -91,7 +94,11 @@ pub impl<'a> Body<'a> for Gates as GateBody {
 
     ghost shown = { gateShown };
 
-    fn kind(bytes: &[u8]) -> Option<GateKind> {
+    ghost Kept = { λ _ _. Unit {0} };
+
+    fn kind(bytes: &[u8]) -> Option<GateKind>
+        ensures { λ r. ⌜ r ≡ looked gateWord gateKinds (now (bytes .entry)) ⌝ }
+    {
         gate_kind(bytes)
     }
 
@@ -99,7 +106,9 @@ pub impl<'a> Body<'a> for Gates as GateBody {
         read_gate(line, kind, fields)
     }
 
-    fn clear(&mut self) {
+    fn clear(&mut self)
+        ensures { λ _. ⌜ gatesOf (now (self .exit)) ≡ [] ⌝ }
+    {
         self.gates.clear();
     }
 

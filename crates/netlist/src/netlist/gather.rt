@@ -93,6 +93,7 @@ impl<'a, B: Body<'a>> Netlist<B> {
     // END is read: the circuit is whole.
     pub(crate) fn close(&mut self, line: &Line<'a>) -> Result<(), Fault>
         ensures found { λ r. ⌜ Closes (B·Body .format) (circuitOf (B·Body .items) (now (self .entry))) (now (line .entry) .number) (now (line .entry) .start) r ⌝ }
+        ensures kept { λ r. ⌜ made r (λ _. B·Body .Kept (now (self .exit) .body) (circuitOf (B·Body .items) (now (self .entry)))) ⌝ }
         ensures same { λ _. ⌜ circuitOf (B·Body .items) (now (self .exit)) ≡ circuitOf (B·Body .items) (now (self .entry)) ⌝ }
     {
         self.body.close(&self.ins, &self.outs, line)

@@ -2,6 +2,7 @@ use mathlib.Core.Path.{_≡_, refl, sym, ap, subst, _∙_}
 use Prim.Native.Nat.{_+_}
 use Rattle.std.specs.declared.option.Option.the-variants.{Some}
 use Rattle.std.specs.declared.result.Result.the-variants.{Ok, Err}
+use Rattle.std.specs.Vec.{made}
 use Rattle.std.proofs.shelf.Results.{err-from-errBy}
 use Rattle.text.specs.declared.lines.Lines.{Lines}
 use Rattle.text.specs.Lines.{NextLine, fieldsOf, linesFrom}
@@ -10,7 +11,7 @@ use Rattle.files.specs.Reading.{added, linesRead}
 use Rattle.netlist.specs.Circuits.{circuitOf, plain}
 use Rattle.netlist.specs.Gathered.{answered}
 use Rattle.netlist.specs.Endings.{linesLeft, goesOn, UpTo}
-use Rattle.netlist.proofs.OneLine.{Taken, taken, record-declined, add-declined, line-done, end-done}
+use Rattle.netlist.proofs.OneLine.{none-made, Taken, taken, record-declined, add-declined, line-done, end-done}
 use Rattle.netlist.proofs.reading.read_to_end.Given.{Over}
 use Rattle.netlist.proofs.reading.read_to_end.Needs as need
 use Rattle.netlist.proofs.reading.read_to_end.Needs.{In-Some}
@@ -44,9 +45,12 @@ returns-in-Break-item g c =
     let f = g .B·Body .format in
     let so-far = circuitOf (g .B·Body .items) (c .loop-line .netlist) in
     let p = err-from-errBy (c .from-residual-in-Break-item .result) (c .from-residual-in-Break-item .ensures .1) in
-    subst (λ q. UpTo f q (c .from-residual-in-Break-item .result) so-far (c .record .last .self .lines))
-    (sym (sym (c .loop-line .inv) ∙ record-declined f (took g w) (before g w .line) (c .loop-line .reader .stage) so-far (p .0) (ap Err (p .2) ∙ c .in-Break-item .ensures tt .gives ∙ asked g w)))
-    (p .1)
+    record {
+      kept = none-made (c .from-residual-in-Break-item .result) (p .0) _ (p .1);
+      gives = subst (λ q. UpTo f q (c .from-residual-in-Break-item .result) so-far (c .record .last .self .lines))
+        (sym (sym (c .loop-line .inv) ∙ record-declined f (took g w) (before g w .line) (c .loop-line .reader .stage) so-far (p .0) (ap Err (p .2) ∙ c .in-Break-item .ensures tt .gives ∙ asked g w)))
+        (p .1);
+    }
 
 pub returns-in-Break-add : need.returns-in-Break-add
 returns-in-Break-add g c =
@@ -56,10 +60,13 @@ returns-in-Break-add g c =
     let e = plain (g .B·Body .shown) (c .in-Continue-item .item) in
     let h = given g w in
     let p = err-from-errBy (c .from-residual-in-Break-add .result) (c .from-residual-in-Break-add .ensures .1) in
-    subst (λ q. UpTo f q (c .from-residual-in-Break-add .result) (circuitOf (g .B·Body .items) (c .add .last .self)) (c .record .last .self .lines))
-    (sym (sym (c .loop-line .inv) ∙ add-declined f (took g w) (before g w .line) (c .loop-line .reader .stage) so-far (c .record .last .self .stage) e
-        (c .in-Continue-item .ensures tt .gives ∙ asked g w) (p .0) (ap Err (p .2) ∙ c .in-Break-add .ensures tt ∙ (λ i. added f so-far (h .0 i) (h .1 i) e))))
-    (p .1)
+    record {
+      kept = none-made (c .from-residual-in-Break-add .result) (p .0) _ (p .1);
+      gives = subst (λ q. UpTo f q (c .from-residual-in-Break-add .result) (circuitOf (g .B·Body .items) (c .add .last .self)) (c .record .last .self .lines))
+        (sym (sym (c .loop-line .inv) ∙ add-declined f (took g w) (before g w .line) (c .loop-line .reader .stage) so-far (c .record .last .self .stage) e
+            (c .in-Continue-item .ensures tt .gives ∙ asked g w) (p .0) (ap Err (p .2) ∙ c .in-Break-add .ensures tt ∙ (λ i. added f so-far (h .0 i) (h .1 i) e))))
+        (p .1);
+    }
 
 pub returns-then-closed : need.returns-then-closed
 returns-then-closed g c =
@@ -71,15 +78,18 @@ returns-then-closed g c =
     let h = given g w in
     let same = c .in-Continue-item .ensures tt .same in
     let closes = c .close .ensures .found in
-    subst (λ q. UpTo f q (c .close .result) (circuitOf (g .B·Body .items) (c .close .last .self)) (c .record .last .self .lines))
-    (sym (sym (c .loop-line .inv) ∙ end-done f (took g w) (before g w .line) (c .loop-line .reader .stage) so-far (c .record .last .self .stage) e
-        (c .in-Continue-item .ensures tt .gives ∙ asked g w) d (c .in-Continue-add .ensures tt ∙ (λ i. added f so-far (h .0 i) (h .1 i) e)) (c .if-closed .ensures tt)))
-    (closes .0, closes .1, closes .2 ∙ (λ i. answered (closes .0) (h .0 i) (h .1 i)), λ none. record {
-      circuit = c .close .ensures .same;
-      line = ap (λ (l : Lines). l .line) same ∙ h .4;
-      next = ap (λ (l : Lines). l .pos) same;
-      rest = ap linesLeft same ∙ left g w;
-    })
+    record {
+      kept = subst (λ x. made (c .close .result) (λ _. g .B·Body .Kept (c .close .last .self .body) x)) (sym (c .close .ensures .same)) (c .close .ensures .kept);
+      gives = subst (λ q. UpTo f q (c .close .result) (circuitOf (g .B·Body .items) (c .close .last .self)) (c .record .last .self .lines))
+        (sym (sym (c .loop-line .inv) ∙ end-done f (took g w) (before g w .line) (c .loop-line .reader .stage) so-far (c .record .last .self .stage) e
+            (c .in-Continue-item .ensures tt .gives ∙ asked g w) d (c .in-Continue-add .ensures tt ∙ (λ i. added f so-far (h .0 i) (h .1 i) e)) (c .if-closed .ensures tt)))
+        (closes .0, closes .1, closes .2 ∙ (λ i. answered (closes .0) (h .0 i) (h .1 i)), λ none. record {
+          circuit = c .close .ensures .same;
+          line = ap (λ (l : Lines). l .line) same ∙ h .4;
+          next = ap (λ (l : Lines). l .pos) same;
+          rest = ap linesLeft same ∙ left g w;
+        });
+    }
 
 pub loop-line-again : need.loop-line-again
 loop-line-again g c =

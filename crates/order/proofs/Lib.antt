@@ -1,0 +1,11 @@
+pub mod Members
+pub mod Linking
+pub mod Joining
+pub mod Nets
+pub mod Blocking
+pub mod Arranging
+pub mod Round
+pub mod Evaluating
+pub mod Rings
+pub mod Sizes
+pub mod Outcomes

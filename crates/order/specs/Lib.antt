@@ -1,0 +1,3 @@
+pub mod Components
+pub mod Placing
+pub mod Found
