@@ -1,11 +1,12 @@
 ghost use mathlib.Core.Path.{_≡_};
 ghost use mathlib.Core.List.{[]};
 ghost use Rattle.std.specs.Vec.{made};
+ghost use Rattle.cell.specs.declared.Device.{Device};
 ghost use Rattle.records.specs.Kinds.{deviceKinds, deviceWord};
 ghost use Rattle.records.specs.Records.{looked};
 ghost use Rattle.records.specs.Shown.{deviceShown};
 ghost use Rattle.files.specs.Files.{drawnFormat};
-ghost use Rattle.circuits.specs.Bodies.{devicesOf, Ordered};
+ghost use Rattle.circuits.specs.Bodies.{devicesOf, Ordered, reasonFor};
 use super::Devices;
 use cell::Device;
 use cell::DeviceKind;
@@ -21,6 +22,15 @@ use text::fault::Fault;
 use text::fault::Reason;
 use text::lines::Fields;
 use text::lines::Line;
+
+fn reason_for(obstacle: Obstacle) -> Reason
+    ensures { λ r. ⌜ r ≡ reasonFor obstacle ⌝ }
+{
+    match obstacle {
+        Obstacle::WaitingRing => Reason::WaitingRing,
+        Obstacle::LargeComponent => Reason::LargeComponent,
+    }
+}
 
 impl Devices {
     pub fn new(heap: Global) -> Result<Devices, AllocError>
@@ -79,8 +89,7 @@ pub impl<'a> Body<'a> for Devices as DeviceBody {
     fn close(&mut self, ins: &[u8], _outs: &[u8], line: &Line<'a>) -> Result<(), Fault> {
         match self.order.find(ins, &self.devices) {
             Ok(()) => Ok(()),
-            Err(Obstacle::WaitingRing) => Err(line.fault(Reason::WaitingRing)),
-            Err(Obstacle::LargeComponent) => Err(line.fault(Reason::LargeComponent)),
+            Err(obstacle) => Err(line.fault(reason_for(obstacle))),
         }
     }
 }
