@@ -9,6 +9,7 @@ use lib.Dec.{eqb}
 use lib.ListN.{length, take, drop, set, getD}
 use Rattle.std.specs.declared.option.Option.{Option}
 use Rattle.std.specs.declared.option.Option.the-variants.{Some, None}
+use Rattle.std.specs.Of.Vec.{vec-len, vec-items}
 use Rattle.std.proofs.shelf.Lists.{at-drop-more, at-drop-all, drop-all, length-drop, length-map, getD-map, take-more, take-more-set}
 use Rattle.std.proofs.shelf.Tests.{eq-eqb, ne-eqb, eqb-true, eqb-false, or-left}
 use Rattle.cell.specs.declared.GateKind.{GateKind}
@@ -18,7 +19,11 @@ use Rattle.records.specs.declared.NetAt.{NetAt}
 use Rattle.files.specs.Reading.{values}
 use Rattle.files.specs.Files.{gateOf, driven, isKnown, gateBarred}
 use Rattle.circuits.specs.declared.gates.LogicGate.{LogicGate}
-use Rattle.circuits.specs.Bodies.{gateHeld}
+use Rattle.circuits.specs.declared.gates.Gates.{Gates}
+use Rattle.circuits.specs.Bodies.{gateHeld, gatesOf}
+
+pub many : (b : Gates) → vec-len (b .gates) ≡ length (gatesOf b)
+many b = b .gates .ok .0 ∙ sym (length-map (vec-items (b .gates)) gateHeld)
 
 -- whether a gate drives a net, from gate i on
 

@@ -9,7 +9,7 @@ pub struct Netlist<B> {
     pub(crate) name: Vec<u8>,
     pub(crate) ins: Vec<u8>,
     pub(crate) outs: Vec<u8>,
-    pub(crate) body: B,
+    pub body: B,
     ghost named: { 16 ≤ vec-cap name },
     ghost wide: { 16 ≤ vec-cap ins },
     ghost deep: { 16 ≤ vec-cap outs },

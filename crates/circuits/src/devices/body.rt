@@ -1,5 +1,6 @@
 ghost use mathlib.Core.Path.{_≡_};
 ghost use mathlib.Core.List.{[]};
+ghost use lib.ListN.{length};
 ghost use Rattle.std.specs.Vec.{made};
 ghost use Rattle.cell.specs.declared.Device.{Device};
 ghost use Rattle.records.specs.Kinds.{deviceKinds, deviceWord};
@@ -39,6 +40,12 @@ impl Devices {
         let devices = Vec::with_capacity(heap, 256)?;
         let order = Order::new(heap)?;
         Ok(Devices { devices, order })
+    }
+
+    pub fn count(&self) -> usize
+        ensures { λ r. ⌜ r ≡ length (devicesOf (now (self .entry))) ⌝ }
+    {
+        self.devices.len()
     }
 }
 

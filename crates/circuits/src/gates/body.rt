@@ -48,6 +48,12 @@ impl Gates {
         Ok(Gates { gates })
     }
 
+    pub fn count(&self) -> usize
+        ensures { λ r. ⌜ r ≡ length (gatesOf (now (self .entry))) ⌝ }
+    {
+        self.gates.len()
+    }
+
     // Whether a gate has the net as its output.
     fn drive(&self, net: u8) -> bool
         ensures { λ r. ⌜ r ≡ driven (gatesOf (now (self .entry))) net ⌝ }

@@ -37,6 +37,18 @@ impl<'a, B: Body<'a>> Netlist<B> {
         Ok(Netlist { name, ins, outs, body })
     }
 
+    pub fn ins(&self) -> &[u8]
+        ensures { λ r. ⌜ now r ≡ circuitOf (B·Body .items) (now (self .entry)) .ins ⌝ }
+    {
+        &self.ins
+    }
+
+    pub fn outs(&self) -> &[u8]
+        ensures { λ r. ⌜ now r ≡ circuitOf (B·Body .items) (now (self .entry)) .outs ⌝ }
+    {
+        &self.outs
+    }
+
     pub(crate) fn clear(&mut self)
         ensures { λ _. ⌜ circuitOf (B·Body .items) (now (self .exit)) ≡ blank ⌝ }
     {

@@ -5,18 +5,15 @@ use Prim.Native.Nat.{_≤_, _<_}
 use lib.Dec.{leb}
 use lib.ListN.{length}
 use Rattle.std.specs.declared.result.Result.the-variants.{Ok, Err}
-use Rattle.std.specs.Of.Vec.{vec-len, vec-items}
-use Rattle.std.proofs.shelf.Lists.{length-map, map-push}
+use Rattle.std.specs.Of.Vec.{vec-items}
+use Rattle.std.proofs.shelf.Lists.{map-push}
 use Rattle.std.proofs.shelf.Tests.{cond-true, cond-false, le-leb, lt-leb}
 use Rattle.records.specs.Shown.{netList}
 use Rattle.files.specs.Reading.{values, pushed}
 use Rattle.files.specs.Files.{intendedFormat, gateOf, gateBarred}
-use Rattle.circuits.specs.declared.gates.Gates.{Gates}
 use Rattle.circuits.specs.Bodies.{gateHeld, gatesOf}
+use Rattle.circuits.proofs.Gating.{many}
 use Rattle.circuits.proofs.gates.body.GateBody.add.Needs as need
-
-many : (b : Gates) → vec-len (b .gates) ≡ length (gatesOf b)
-many b = b .gates .ok .0 ∙ sym (length-map (vec-items (b .gates)) gateHeld)
 
 pub returns-then-len-ge64 : need.returns-then-len-ge64
 returns-then-len-ge64 c =

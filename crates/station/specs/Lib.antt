@@ -1,0 +1,4 @@
+pub mod Pages
+pub mod Reports
+pub mod Slots
+pub mod Stations
