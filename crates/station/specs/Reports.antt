@@ -11,6 +11,7 @@ use Rattle.text.specs.declared.fault.Fault.{Fault}
 use Rattle.text.specs.declared.fault.Reason.the-variants.{PageShort}
 use Rattle.text.specs.Faults.{numberOf, fault}
 use Rattle.files.specs.Written.{row}
+use Rattle.station.specs.declared.report.Decline.{Decline}
 use Rattle.station.specs.declared.report.Origin.{Origin}
 use Rattle.station.specs.declared.report.Origin.the-variants.{Drawn, Intended, Pair}
 
@@ -20,8 +21,8 @@ originWord Intended = codes "intended"
 originWord Pair = codes "pair"
 
 -- a decline as a line: the word DECLINED, whose it is, its number, line and place
-abbrev pub declinedLine : Origin → Fault → List ℕ
-declinedLine o f = row (codes "DECLINED" ∷ originWord o ∷ decimal (numberOf (f .reason)) ∷ decimal (f .line) ∷ decimal (f .place) ∷ [])
+abbrev pub declinedLine : Decline → List ℕ
+declinedLine d = row (codes "DECLINED" ∷ originWord (d .origin) ∷ decimal (numberOf (d .fault .reason)) ∷ decimal (d .fault .line) ∷ decimal (d .fault .place) ∷ [])
 
 abbrev pub lead : Origin → List ℕ
 lead o = codes "DECLINED" ++ (9 ∷ (originWord o ++ 9 ∷ []))

@@ -16,6 +16,12 @@ pub enum Origin {
     Pair,
 }
 
+#[derive(Clone, Copy)]
+pub struct Decline {
+    pub origin: Origin,
+    pub fault: Fault,
+}
+
 // The fewest bytes that a page may have: room for any line.
 pub const PAGE: usize = 64;
 
@@ -31,14 +37,14 @@ fn lead(origin: Origin) -> &'static [u8]
 }
 
 // Writes a decline as a line at the start of the page, and gives its length. A page under 64 bytes is declined, and left.
-pub fn report_decline(origin: Origin, fault: &Fault, page: &mut [u8]) -> Result<usize, Fault>
-    ensures { λ r. ⌜ Reported (declinedLine origin (now (fault .entry))) (now (page .entry)) r (now (page .exit)) ⌝ }
+pub fn report_decline(decline: &Decline, page: &mut [u8]) -> Result<usize, Fault>
+    ensures { λ r. ⌜ Reported (declinedLine (now (decline .entry))) (now (page .entry)) r (now (page .exit)) ⌝ }
 {
     if page.len() < PAGE {
         return Err(Fault::new(Reason::PageShort, 0, 0));
     }
-    let at = put(page, 0, lead(origin));
-    let at = put_number(page, at, fault.reason.number() as usize, b'\t');
-    let at = put_number(page, at, fault.line, b'\t');
-    Ok(put_number(page, at, fault.place, b'\n'))
+    let at = put(page, 0, lead(decline.origin));
+    let at = put_number(page, at, decline.fault.reason.number() as usize, b'\t');
+    let at = put_number(page, at, decline.fault.line, b'\t');
+    Ok(put_number(page, at, decline.fault.place, b'\n'))
 }

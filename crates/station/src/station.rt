@@ -7,7 +7,11 @@ ghost use Rattle.cell.specs.Waiting.{EvaluationOrder};
 ghost use Rattle.files.specs.Files.{drawnFormat, intendedFormat};
 ghost use Rattle.files.specs.Lawful.{ReadExactly, ReadOneWay};
 ghost use Rattle.station.specs.Slots.{ReadsInto};
-ghost use Rattle.station.specs.Stations.{held, keptOrder, empty, summed};
+ghost use Rattle.netlist.specs.Circuits.{circuitOf};
+ghost use Rattle.circuits.specs.Bodies.{devicesOf, gatesOf};
+ghost use Rattle.station.specs.Stations.{held, keptOrder, empty, summed, PairRead};
+use crate::report::Decline;
+use crate::report::Origin;
 use crate::slot::Slot;
 use circuits::devices::Devices;
 use circuits::devices::body::DeviceBody;
@@ -24,7 +28,7 @@ pub struct Station {
     intended: Slot<Gates>,
 }
 
-// How much the two held circuits have.
+// How much two circuits have; the ports are those of the drawn one.
 #[derive(Clone, Copy)]
 pub struct Summary {
     pub ins: usize,
@@ -78,17 +82,27 @@ impl Station {
         self.intended.wipe();
     }
 
-    // How much the held circuits have, where both are held; the ports are those of the drawn one.
-    pub fn summary(&self) -> Option<Summary>
-        ensures { λ r. ⌜ r ≡ summed (held (now (self .entry))) ⌝ }
+    // How much the two circuits have.
+    fn summary(&self) -> Summary
+        ensures { λ r. ⌜ r ≡ summed (circuitOf devicesOf (now (self .entry) .drawn .current)) (circuitOf gatesOf (now (self .entry) .intended .current)) ⌝ }
     {
-        if !self.drawn.held || !self.intended.held {
-            return None;
-        }
         let ins = self.drawn.current.ins().len();
         let outs = self.drawn.current.outs().len();
         let devices = self.drawn.current.body.count();
         let gates = self.intended.current.body.count();
-        Some(Summary { ins, outs, devices, gates })
+        Summary { ins, outs, devices, gates }
+    }
+
+    // Reads both texts, the drawn one first; the first decline is the answer.
+    pub fn read_pair(&mut self, drawn: &[u8], intended: &[u8]) -> Result<Summary, Decline>
+        ensures { λ r. ⌜ PairRead (now (drawn .entry)) (now (intended .entry)) (held (now (self .entry))) r (held (now (self .exit))) ⌝ }
+    {
+        match self.read_drawn(drawn) {
+            Err(fault) => Err(Decline { origin: Origin::Drawn, fault }),
+            Ok(_) => match self.read_intended(intended) {
+                Err(fault) => Err(Decline { origin: Origin::Intended, fault }),
+                Ok(_) => Ok(self.summary()),
+            },
+        }
     }
 }

@@ -2,7 +2,6 @@ use mathlib.Core.Path.{_≡_, refl, ap, subst}
 use Rattle.std.specs.declared.option.Option.the-variants.{Some}
 use Rattle.cell.specs.Circuits.{Drawn}
 use Rattle.cell.specs.Waiting.{EvaluationOrder}
-use Rattle.text.proofs.Steps.{if-some, same-some}
 use Rattle.order.specs.Found.{orderOf}
 use Rattle.files.proofs.Texts.{drawn-exactly, drawn-one-way}
 use Rattle.netlist.specs.Circuits.{circuitOf}
@@ -11,12 +10,12 @@ use Rattle.circuits.specs.declared.devices.Devices.{Devices}
 use Rattle.circuits.specs.Bodies.{devicesOf, Ordered}
 use Rattle.station.specs.declared.slot.Slot.{Slot}
 use Rattle.station.specs.Slots.{holds}
-use Rattle.station.proofs.Answering.{made-so, refused-so}
+use Rattle.station.proofs.Answering.{made-so, refused-so, current}
 use Rattle.station.proofs.station.Station.read_drawn.Needs as need
 
 -- the circuit that is held is the one that the order goes with
 of-held : (s : Slot Devices) → Ordered (s .current .body) (circuitOf devicesOf (s .current)) → (c : Drawn) → holds devicesOf s ≡ Some c → EvaluationOrder c (orderOf (s .current .body .order))
-of-held s h c e = subst (λ x. EvaluationOrder x (orderOf (s .current .body .order))) (same-some (circuitOf devicesOf (s .current)) c (if-some (s .held) (Some (circuitOf devicesOf (s .current))) c e .1)) h
+of-held s h c e = subst (λ x. EvaluationOrder x (orderOf (s .current .body .order))) (current devicesOf s c e) h
 
 pub returns : need.returns
 returns c =
