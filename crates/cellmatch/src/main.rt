@@ -1,13 +1,11 @@
 // Reads drawn.txt and intended.txt in the working folder and prints one line: the first decline, or how much was read.
-use station::report::PAGE;
-use station::report::report_decline;
+use console::print_pair;
 use station::station::Station;
 use std::error::AnyError;
 use std::fs::File;
 use std::io;
 use std::io::ErrorKind;
 use std::io::Read;
-use std::io::Write;
 use text::lines::LIMIT;
 
 // The text of a file, a missing one being empty, and no more of it than shows that it is too long.
@@ -30,14 +28,7 @@ fn run(rt: &LibcRuntime) -> Result<(), AnyError> {
     let mut station = Station::open(rt.alloc())?;
     let drawn = text_of(rt, "drawn.txt")?;
     let intended = text_of(rt, "intended.txt")?;
-    match station.read_pair(&drawn, &intended) {
-        Ok(read) => println!(rt, "READ\t{}\t{}\t{}\t{}", read.ins, read.outs, read.devices, read.gates)?,
-        Err(decline) => {
-            let mut page = [0; PAGE];
-            let length = report_decline(&decline, &mut page).unwrap_or(0);
-            rt.stdout().write_all(page.get(0..length).unwrap_or(b""))?;
-        }
-    }
+    print_pair(rt, &mut station, &drawn, &intended)?;
     Ok(())
 }
 

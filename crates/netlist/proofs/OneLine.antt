@@ -2,7 +2,6 @@
 use mathlib.Core.Path.{_≡_, refl, sym, ap, _∙_}
 use mathlib.Core.Bool.{Bool, true, false, cond}
 use mathlib.Core.List.{List, _∷_}
-use native.Mathlib.Omega.{arith}
 use Prim.Native.Nat.{ℕ, _+_}
 use lib.ListN.{length, drop}
 use Rattle.std.specs.declared.option.Option.{Option}
@@ -19,6 +18,7 @@ use Rattle.text.specs.Outcomes.{andThen, mapOk}
 use Rattle.text.specs.Lines.{formed, linesFrom, fieldsOf, NextLine}
 use Rattle.text.specs.declared.lines.Line.{Line}
 use Rattle.text.proofs.Splits.{split-cons}
+use Rattle.text.proofs.Steps.{err-ok, off-on}
 use Rattle.records.specs.declared.Stage.{Stage}
 use Rattle.records.specs.declared.Stage.the-variants.{Opening, Inputs, Outputs, Body, Closed}
 use Rattle.records.specs.declared.Word.{Word}
@@ -27,7 +27,7 @@ use Rattle.records.specs.Records.{Entry, firstWord, recordOf}
 use Rattle.files.specs.Reading.{Ended, ifClosed, added, lineRead, linesRead, lineAfter, nothingAfter}
 
 pub none-made : {X E : Type 0} (r : Result X E) (e : E) (Q : X → Type 0) → r ≡ Err e → made r Q
-none-made (Ok x) e Q h = let z : _≡_ {A = ℕ} 0 1 = cc in absurd (omega arith)
+none-made (Ok x) e Q h = err-ok e x (sym h)
 none-made (Err x) e Q h = tt
 
 -- a line in form, and what follows it
@@ -40,10 +40,10 @@ pub taken : (text : List ℕ) (p n : ℕ) (l : Line) (q m : ℕ) → NextLine te
 taken text p n l q m h = record { next = h .2; lines = h .5; good = h .6 }
 
 if-closed : {X : Type 0} (s : Stage) (x y : X) → true ≡ ifClosed s true false → ifClosed s x y ≡ x
-if-closed Opening x y h = let z : _≡_ {A = ℕ} 0 1 = cc in absurd (omega arith)
-if-closed Inputs x y h = let z : _≡_ {A = ℕ} 0 1 = cc in absurd (omega arith)
-if-closed Outputs x y h = let z : _≡_ {A = ℕ} 0 1 = cc in absurd (omega arith)
-if-closed Body x y h = let z : _≡_ {A = ℕ} 0 1 = cc in absurd (omega arith)
+if-closed Opening x y h = off-on (sym h)
+if-closed Inputs x y h = off-on (sym h)
+if-closed Outputs x y h = off-on (sym h)
+if-closed Body x y h = off-on (sym h)
 if-closed Closed x y h = refl
 
 if-open : {X : Type 0} (s : Stage) (x y : X) → false ≡ ifClosed s true false → ifClosed s x y ≡ y
@@ -51,7 +51,7 @@ if-open Opening x y h = refl
 if-open Inputs x y h = refl
 if-open Outputs x y h = refl
 if-open Body x y h = refl
-if-open Closed x y h = let z : _≡_ {A = ℕ} 0 1 = cc in absurd (omega arith)
+if-open Closed x y h = off-on h
 
 module _ {K I : Type 0} (f : Format K I) {text : List ℕ} {p : ℕ} {l : List ℕ} {q : ℕ} (k : Taken text p l q) (n : ℕ) where
   module _ (s : Stage) (c : Circuit I) where

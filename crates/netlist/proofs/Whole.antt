@@ -1,7 +1,5 @@
 -- A reading up to END and past it is a whole reading. Assumes nothing.
 use mathlib.Core.Path.{_≡_, refl, sym, ap, _∙_}
-use native.Mathlib.Omega.{arith}
-use Prim.Native.Nat.{ℕ}
 use Rattle.std.specs.declared.option.Option.{Option}
 use Rattle.std.specs.declared.option.Option.the-variants.{Some, None}
 use Rattle.std.specs.declared.result.Result.{Result}
@@ -12,13 +10,11 @@ use Rattle.text.specs.declared.fault.Fault.{Fault}
 use Rattle.text.specs.declared.fault.Reason.{Reason}
 use Rattle.text.specs.declared.lines.Lines.{Lines}
 use Rattle.text.specs.Outcomes.{mapOk, okWith}
+use Rattle.text.proofs.Steps.{err-ok}
 use Rattle.records.specs.Formats.{Format}
 use Rattle.files.specs.Reading.{Ended, nothingAfter, closed, FromEnd}
-use Rattle.netlist.specs.Gathered.{answered}
+use Rattle.reader.specs.Gathered.{answered}
 use Rattle.netlist.specs.Endings.{linesLeft, Past, UpTo}
-
-ok-err : {X E Z : Type 0} (e : E) (x : X) → _≡_ {A = Result X E} (Ok x) (Err e) → Z
-ok-err e x h = let z : _≡_ {A = ℕ} 0 1 = cc in absurd (omega arith)
 
 pub every-made : {X E : Type 0} (r : Result X E) (Q : Type 0) → Q → made r (λ _. Q)
 every-made (Ok x) Q h = h
@@ -34,11 +30,11 @@ module _ {K I : Type 0} (f : Format K I) where
 
   past-end : (e : Ended I) (found : Option Reason) (r : Result Unit Fault) (c : Circuit I) (l : Lines) → f .AtEnd (e .circuit) found
     → Ok tt ≡ answered found (e .line) (e .place) → (found ≡ None → Past e c l) → r ≡ Rest l → FromEnd f (Ok e) (okWith r c)
-  past-end e (Some w) r c l at is past h = ok-err _ _ is
+  past-end e (Some w) r c l at is past h = err-ok _ _ (sym is)
   past-end e None r c l at is past h =
       let p = past refl in
       (None, at, with-map r c ∙ (λ i. mapOk (λ _. p .circuit i) (h i)) ∙ (λ i. mapOk (λ _. e .circuit) (nothingAfter f (p .line i) (p .next i) (p .rest i))))
 
   pub whole : (q : Result (Ended I) Fault) (r : Result Unit Fault) (c : Circuit I) (l : Lines) → UpTo f q (Ok tt) c l → r ≡ Rest l → FromEnd f q (okWith r c)
-  whole (Err e) r c l u h = ok-err _ _ u
+  whole (Err e) r c l u h = err-ok _ _ (sym u)
   whole (Ok e) r c l u h = past-end e (u .0) r c l (u .1) (u .2) (u .3) h

@@ -13,8 +13,8 @@ use Rattle.text.specs.declared.lines.Lines.{Lines}
 use Rattle.text.specs.Lines.{linesFrom}
 use Rattle.records.specs.Formats.{Format}
 use Rattle.files.specs.Reading.{Ended, linesRead}
-use Rattle.netlist.specs.declared.reader.Reader.{Reader}
-use Rattle.netlist.specs.Gathered.{answered}
+use Rattle.reader.specs.declared.Reader.{Reader}
+use Rattle.reader.specs.Gathered.{answered}
 
 -- what is left to read, by lines
 abbrev pub linesLeft : Lines → List (List ℕ)

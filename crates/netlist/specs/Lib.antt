@@ -1,3 +1,2 @@
-pub mod Gathered
 pub mod Circuits
 pub mod Endings

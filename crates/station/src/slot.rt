@@ -4,7 +4,7 @@ ghost use mathlib.Core.Bool.{true};
 ghost use Rattle.std.specs.Vec.{made, refused};
 ghost use Rattle.netlist.specs.Circuits.{circuitOf};
 ghost use Rattle.station.specs.Slots.{holds, nothing, ReadsInto};
-use netlist::body::Body;
+use reader::body::Body;
 use netlist::netlist::Netlist;
 use netlist::reading::read;
 use text::fault::Fault;

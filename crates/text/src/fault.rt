@@ -44,10 +44,14 @@ impl Reason {
     pub fn layer(self) -> Layer
         ensures { λ r. ⌜ r ≡ layerOf self ⌝ }
     {
-        match self.number() {
-            0..=2 => Layer::Text,
-            3..=6 => Layer::Record,
-            7..=11 => Layer::Circuit,
+        match self {
+            Reason::TextTooLong | Reason::MalformedLine => Layer::Text,
+            Reason::UnknownWord | Reason::OutOfTurn | Reason::FieldCount | Reason::BadField => Layer::Record,
+            Reason::TooManyRecords
+            | Reason::NetNotAllowed
+            | Reason::OutputWithoutGate
+            | Reason::WaitingRing
+            | Reason::LargeComponent => Layer::Circuit,
             _ => Layer::Call,
         }
     }

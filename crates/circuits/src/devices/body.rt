@@ -11,7 +11,7 @@ ghost use Rattle.circuits.specs.Bodies.{devicesOf, Ordered, reasonFor};
 use super::Devices;
 use cell::Device;
 use cell::DeviceKind;
-use netlist::body::Body;
+use reader::body::Body;
 use order::Obstacle;
 use order::order::Order;
 use records::DeviceRecord;

@@ -13,7 +13,7 @@ ghost use Rattle.circuits.specs.Bodies.{gateHeld, gatesOf};
 use super::Gates;
 use super::LogicGate;
 use cell::GateKind;
-use netlist::body::Body;
+use reader::body::Body;
 use netlist::netlist::gather::listed;
 use records::GateRecord;
 use records::NetAt;

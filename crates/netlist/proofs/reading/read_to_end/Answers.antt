@@ -8,8 +8,9 @@ use Rattle.text.specs.declared.lines.Lines.{Lines}
 use Rattle.text.specs.Lines.{NextLine, fieldsOf, linesFrom}
 use Rattle.records.specs.Records.{recordOf}
 use Rattle.files.specs.Reading.{added, linesRead}
-use Rattle.netlist.specs.Circuits.{circuitOf, plain}
-use Rattle.netlist.specs.Gathered.{answered}
+use Rattle.reader.specs.Entries.{plain}
+use Rattle.netlist.specs.Circuits.{circuitOf}
+use Rattle.reader.specs.Gathered.{answered}
 use Rattle.netlist.specs.Endings.{linesLeft, goesOn, UpTo}
 use Rattle.netlist.proofs.OneLine.{none-made, Taken, taken, record-declined, add-declined, line-done, end-done}
 use Rattle.netlist.proofs.reading.read_to_end.Given.{Over}

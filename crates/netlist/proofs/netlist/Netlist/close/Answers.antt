@@ -4,7 +4,7 @@ use borrow.Author.Needs.{needs}
 use Prim.Native.Nat.{ℕ}
 use Rattle.std.specs.Of.Vec.{vec-items}
 use Rattle.std.specs.Vec.{made}
-use Rattle.netlist.specs.Gathered.{Closes}
+use Rattle.reader.specs.Gathered.{Closes}
 use Rattle.netlist.proofs.netlist.Netlist.close.Needs as need
 
 pub returns : need.returns

@@ -7,8 +7,8 @@ ghost use Rattle.text.specs.Outcomes.{mapOk};
 ghost use Rattle.text.specs.Lines.{fieldsOf};
 ghost use Rattle.text.specs.Fields.{fieldsLeft};
 ghost use Rattle.records.specs.Records.{wordOf, firstWord, afterFirst, entryOf, recordOf};
-ghost use Rattle.netlist.specs.Circuits.{plain, Fits};
-use super::Reader;
+ghost use Rattle.reader.specs.Entries.{plain, Fits};
+use crate::Reader;
 use crate::body::Body;
 use records::Record;
 use records::Word;
@@ -41,7 +41,7 @@ fn read_word<'a, B: Body<'a>>(bytes: &[u8]) -> Option<Word<B::Kind>>
 }
 
 // The word of a line, its first field.
-pub(crate) fn first_word<'a, B: Body<'a>>(line: &Line<'a>, fields: &mut Fields<'a>) -> Result<Word<B::Kind>, Fault>
+pub fn first_word<'a, B: Body<'a>>(line: &Line<'a>, fields: &mut Fields<'a>) -> Result<Word<B::Kind>, Fault>
     ensures word { λ r. ⌜ r ≡ firstWord (B·Body .format) (now (line .entry) .number) (now (line .entry) .start) (fieldsLeft (now (fields .entry))) ⌝ }
     ensures left { λ r. ⌜ made r (λ _. fieldsLeft (now (fields .exit)) ≡ afterFirst (fieldsLeft (now (fields .entry)))) ⌝ }
 {

@@ -13,6 +13,7 @@ use text::fault::Reason;
 use text::lines::Line;
 use text::lines::Lines;
 
+pub mod body;
 pub mod entries;
 
 #[derive(Drop)]

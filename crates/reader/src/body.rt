@@ -11,7 +11,7 @@ ghost use Rattle.records.specs.declared.NetAt.{NetAt};
 ghost use Rattle.records.specs.Formats.{Format};
 ghost use Rattle.records.specs.Records.{looked, netsCounted, Proper};
 ghost use Rattle.files.specs.Reading.{addedItem};
-ghost use Rattle.netlist.specs.Gathered.{Closes};
+ghost use Rattle.reader.specs.Gathered.{Closes};
 use text::fault::Fault;
 use text::lines::Fields;
 use text::lines::Line;
