@@ -16,7 +16,7 @@ use Rattle.cell.specs.declared.GateKind.{GateKind}
 use Rattle.cell.specs.Circuits.{Gate}
 use Rattle.cell.specs.Lists.{In}
 use Rattle.records.specs.declared.NetAt.{NetAt}
-use Rattle.files.specs.Reading.{values}
+use Rattle.records.specs.Records.{values}
 use Rattle.files.specs.Files.{gateOf, driven, isKnown, gateBarred}
 use Rattle.circuits.specs.declared.gates.LogicGate.{LogicGate}
 use Rattle.circuits.specs.declared.gates.Gates.{Gates}

@@ -14,8 +14,7 @@ use Rattle.cell.specs.Circuits.{Drawn, deviceNets, Numbered}
 use Rattle.text.specs.declared.fault.Reason.{Reason}
 use Rattle.text.specs.Lines.{fieldFormed}
 use Rattle.records.specs.declared.Word.the-variants.{Item}
-use Rattle.records.specs.Records.{wordOf}
-use Rattle.files.specs.Reading.{values}
+use Rattle.records.specs.Records.{wordOf, values}
 use Rattle.records.specs.Kinds.{deviceWord}
 use Rattle.files.specs.Files.{deviceOf, DrawnAtEnd, ring, large, sound, drawnFormat}
 use Rattle.files.proofs.Facts.{FormatFacts}

@@ -12,8 +12,7 @@ use Rattle.text.specs.Lines.{fieldFormed}
 use Rattle.records.specs.declared.NetAt.{NetAt}
 use Rattle.records.specs.declared.Word.the-variants.{Item}
 use Rattle.records.specs.Formats.{Format}
-use Rattle.records.specs.Records.{wordOf}
-use Rattle.files.specs.Reading.{values}
+use Rattle.records.specs.Records.{wordOf, values}
 
 pub record FormatFacts {K I : Type 0} (f : Format K I) : Type 0 where
   -- the words of the kinds

@@ -21,8 +21,8 @@ use Rattle.text.specs.Lines.{fieldFormed}
 use Rattle.text.proofs.Steps.{off-on, yes-none, no-none}
 use Rattle.records.specs.declared.NetAt.{NetAt}
 use Rattle.records.specs.declared.Word.the-variants.{Item}
-use Rattle.records.specs.Records.{wordOf}
-use Rattle.files.specs.Reading.{member, rail, values}
+use Rattle.records.specs.Records.{wordOf, values}
+use Rattle.files.specs.Reading.{member, rail}
 use Rattle.records.specs.Kinds.{gateWord, arity}
 use Rattle.files.specs.Files.{gateOf, Known, GateRule, driven, isKnown, gateBarred, IntendedAtEnd, ungated, gated, intendedFormat}
 use Rattle.files.proofs.Facts.{FormatFacts}

@@ -26,9 +26,8 @@ use Rattle.records.specs.declared.Word.{Word}
 use Rattle.records.specs.declared.Word.the-variants.{Cell, In, Out, Item, End}
 use Rattle.records.specs.Numbers.{netOf, isName}
 use Rattle.records.specs.Formats.{Format}
-use Rattle.records.specs.Records.{looked, headWord, orElse, wordOf, lastRead, mayFollow, turned, Entry, cell, input, output, item, finish, oneField, netAt, netsAt, nameAt, netsCounted, entryOf, recordOf}
-use Rattle.records.proofs.Spelling.{Net, net-read}
-use Rattle.files.specs.Reading.{values}
+use Rattle.records.specs.Records.{looked, headWord, orElse, wordOf, lastRead, mayFollow, turned, Entry, cell, input, output, item, finish, oneField, netAt, netsAt, nameAt, netsCounted, entryOf, recordOf, values}
+use Rattle.records.proofs.Spelling.{Net, net-at, NetFields, nets-at}
 
 only-one : (fs : List Part) (f : Part) → onlyOne fs ≡ Some f → fs ≡ f ∷ []
 only-one [] f h = cc
@@ -38,26 +37,6 @@ only-one (a ∷ b ∷ r) f h = cc
 no-fields : (fs : List Part) → isNil fs ≡ true → raw fs ≡ []
 no-fields [] h = refl
 no-fields (f ∷ fs) h = off-on h
-
-net-at : (n : ℕ) (f : Part) (x : NetAt) → netAt n f ≡ Ok x → Net (f .bytes) (x .value)
-net-at n f x h =
-    let p = map-ok (λ v. record { place = f .place; value = v }) (okOr (netOf (f .bytes)) (fault BadField n (f .place))) x h in
-    subst (λ (y : NetAt). Net (f .bytes) (y .value)) (p .2) (net-read (f .bytes) (p .0) (or-ok (netOf (f .bytes)) (fault BadField n (f .place)) (p .0) (p .1)))
-
--- net numbers as fields
-pub record NetFields (fs : List (List ℕ)) (xs : List NetAt) : Type 0 where
-  pub spelled : fs ≡ map decimal (values xs)
-  pub numbers : Numbered (values xs)
-
-nets-at : (n : ℕ) (fs : List Part) (xs : List NetAt) → netsAt n fs ≡ Ok xs → NetFields (raw fs) xs × (length fs ≡ length xs)
-nets-at n [] xs h = let P : List NetAt → Type 0 = λ ys. NetFields [] ys × (0 ≡ length ys) in subst P (same-ok [] xs h) (record { spelled = refl; numbers = tt }, refl)
-nets-at n (f ∷ fs) xs h =
-    let o = then-ok (netAt n f) (λ x. mapOk (λ xs. x ∷ xs) (netsAt n fs)) xs h in
-    let m = map-ok (λ xs. o .0 ∷ xs) (netsAt n fs) xs (o .2) in
-    let x = net-at n f (o .0) (o .1) in
-    let more = nets-at n fs (m .0) (m .1) in
-    let P : List NetAt → Type 0 = λ ys. NetFields (raw (f ∷ fs)) ys × (length (f ∷ fs) ≡ length ys) in
-    subst P (m .2) (record { spelled = λ i. x .spelled i ∷ more .0 .spelled i; numbers = (x .small, more .0 .numbers) }, ap suc (more .1))
 
 -- where a word is found, the field is the word
 found : {W : Type 0} (spelled : W → List ℕ) (t : Bool) (w v : W) (o : Option W) (bs : List ℕ) → (t ≡ true → bs ≡ spelled w) → (o ≡ Some v → bs ≡ spelled v) → cond t (Some w) o ≡ Some v → bs ≡ spelled v

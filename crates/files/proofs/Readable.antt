@@ -30,9 +30,9 @@ use Rattle.records.specs.declared.Stage.the-variants.{Opening, Inputs, Outputs,
 use Rattle.records.specs.declared.Word.the-variants.{Out, Item, End}
 use Rattle.records.specs.Formats.{Format}
 use Rattle.records.specs.Numbers.{isName}
-use Rattle.records.specs.Records.{Entry, cell, input, output, item, finish, turned, netAt, netsAt, entryOf, recordOf}
+use Rattle.records.specs.Records.{Entry, cell, input, output, item, finish, turned, netAt, netsAt, entryOf, recordOf, values}
 use Rattle.records.proofs.Spelling.{net-spelled, name-field}
-use Rattle.files.specs.Reading.{blank, member, rail, values, pushed, added, lineRead, Ended, ifClosed, linesRead, upToEnd}
+use Rattle.files.specs.Reading.{blank, member, rail, pushed, added, lineRead, Ended, ifClosed, linesRead, upToEnd}
 use Rattle.files.specs.Written.{row, cellRow, inRow, outRow, itemRow, written}
 use Rattle.files.specs.Lawful.{FreshIn, FreshOut, Lawful}
 use Rattle.files.proofs.Facts.{FormatFacts}

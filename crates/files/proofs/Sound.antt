@@ -34,13 +34,14 @@ use Rattle.records.specs.declared.Word.{Word}
 use Rattle.records.specs.declared.Word.the-variants.{Cell, In, Out, Item, End}
 use Rattle.records.specs.Numbers.{isName}
 use Rattle.records.specs.Formats.{Format}
-use Rattle.records.specs.Records.{Entry, lastRead, mayFollow, recordOf}
-use Rattle.files.specs.Reading.{blank, member, rail, values, pushed, addedItem, added, lineRead, Ended, ifClosed, linesRead}
+use Rattle.records.specs.Records.{Entry, lastRead, mayFollow, recordOf, values}
+use Rattle.files.specs.Reading.{blank, member, rail, pushed, addedItem, added, lineRead, Ended, ifClosed, linesRead}
 use Rattle.files.specs.Written.{row, cellRow, inRow, outRow, itemRow, rows, written}
 use Rattle.files.specs.Lawful.{FreshIn, FreshOut}
 use Rattle.files.proofs.Facts.{FormatFacts}
 use Rattle.files.proofs.Members.{absent}
-use Rattle.files.proofs.Read.{NetFields, spelled, After, Read, read-record}
+use Rattle.records.proofs.Spelling.{NetFields}
+use Rattle.files.proofs.Read.{spelled, After, Read, read-record}
 
 -- one row more, where none follows
 

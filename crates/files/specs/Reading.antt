@@ -1,7 +1,7 @@
 -- What a text of either file gives: a circuit, or the first decline. Assumes nothing.
 use mathlib.Core.Path.{_≡_}
 use mathlib.Core.Bool.{Bool, true, false, cond, _||_}
-use mathlib.Core.List.{List, [], _∷_, _++_, map}
+use mathlib.Core.List.{List, [], _∷_, _++_}
 use Prim.Native.Nat.{ℕ, _+_}
 use lib.Dec.{leb, ltb, eqb}
 use lib.ListN.{length}
@@ -20,7 +20,7 @@ use Rattle.records.specs.declared.NetAt.{NetAt}
 use Rattle.records.specs.declared.Stage.{Stage}
 use Rattle.records.specs.declared.Stage.the-variants.{Opening, Inputs, Outputs, Body, Closed}
 use Rattle.records.specs.Formats.{Format}
-use Rattle.records.specs.Records.{Entry, cell, input, output, item, finish, firstWord, recordOf}
+use Rattle.records.specs.Records.{Entry, cell, input, output, item, finish, values, firstWord, recordOf}
 
 abbrev pub blank : {I : Type 0} → Circuit I
 blank = record { name = []; ins = []; outs = []; body = [] }
@@ -42,9 +42,6 @@ addedIn c n p x = cond (leb 16 (length (c .ins))) (Err (fault TooManyRecords n p
 -- at most 16 OUT; an OUT is no rail, no IN and no earlier OUT
 abbrev pub addedOut : {I : Type 0} → Circuit I → ℕ → ℕ → NetAt → Result (Circuit I) Fault
 addedOut c n p x = cond (leb 16 (length (c .outs))) (Err (fault TooManyRecords n p)) (cond (rail (x .value) || member (x .value) (c .ins) || member (x .value) (c .outs)) (Err (fault NetNotAllowed n (x .place))) (Ok (record { name = c .name; ins = c .ins; outs = c .outs ++ x .value ∷ []; body = c .body })))
-
-abbrev pub values : List NetAt → List ℕ
-values xs = map (λ x. x .value) xs
 
 -- a body with one record more, where no net of it is barred
 abbrev pub pushed : {K I : Type 0} → Format K I → List I → ℕ → K → List NetAt → Option ℕ → Result (List I) Fault

@@ -1,7 +1,7 @@
 -- The nets of a record, field by field. Assumes nothing.
 use mathlib.Core.Path.{_≡_, refl, sym, ap, subst, _∙_}
 use mathlib.Core.List.{List, [], _∷_, _++_, append-assoc}
-use Prim.Native.Nat.{ℕ, suc, _+_, _≤_, _<_}
+use Prim.Native.Nat.{ℕ, _+_, _<_}
 use native.Mathlib.Omega.{arith}
 use lib.ListN.{length, take, set}
 use Rattle.std.specs.declared.result.Result.{Result}
@@ -11,19 +11,17 @@ use Rattle.std.specs.Vec.{made}
 use Rattle.std.proofs.shelf.Lists.{take-more-set}
 use Rattle.std.proofs.shelf.Tests.{cond-false, ne-eqb}
 use Rattle.cell.specs.declared.DeviceKind.{DeviceKind}
-use Rattle.cell.specs.Lists.{Every}
 use Rattle.text.specs.declared.fault.Fault.{Fault}
-use Rattle.text.specs.declared.fault.Reason.the-variants.{FieldCount, BadField}
+use Rattle.text.specs.declared.fault.Reason.the-variants.{FieldCount}
 use Rattle.text.specs.Faults.{fault}
 use Rattle.text.specs.Outcomes.{andThen, mapOk}
 use Rattle.text.specs.Lines.{Part, onlyThree}
-use Rattle.text.proofs.Steps.{same-ok, then-ok, map-ok, or-ok, yes-ok}
+use Rattle.text.proofs.Steps.{map-ok, yes-ok}
 use Rattle.records.specs.declared.NetAt.{NetAt}
 use Rattle.records.specs.Kinds.{deviceTakes}
-use Rattle.records.specs.Numbers.{netOf}
 use Rattle.records.specs.Formats.{Format}
 use Rattle.records.specs.Records.{netAt, netsAt, netsCounted, Proper}
-use Rattle.records.proofs.Spelling.{net-read}
+use Rattle.records.proofs.Spelling.{nets-at}
 
 -- three fields as nets, one after another
 abbrev pub threeNets : ℕ → DeviceKind → Part × Part × Part → Result (DeviceKind × List NetAt) Fault
@@ -66,29 +64,11 @@ net-declined n f fs done e h = ap (λ r. mapOk (λ xs. done ++ xs) (andThen r (�
 
 -- a record that is read lists as many nets as its kind takes, each a net number
 
-nets-many : (n : ℕ) (fs : List Part) (xs : List NetAt) → netsAt n fs ≡ Ok xs → length xs ≡ length fs
-nets-many n [] xs h = ap length (sym (same-ok [] xs h))
-nets-many n (f ∷ fs) xs h =
-    let o = then-ok (netAt n f) (λ x. mapOk (λ ys. x ∷ ys) (netsAt n fs)) xs h in
-    let m = map-ok (λ ys. o .0 ∷ ys) (netsAt n fs) xs (o .2) in
-    ap length (sym (m .2)) ∙ ap suc (nets-many n fs (m .0) (m .1))
-
-net-low : (n : ℕ) (f : Part) (x : NetAt) → netAt n f ≡ Ok x → x .value ≤ 127
-net-low n f x h =
-    let m = map-ok (λ v. record { place = f .place; value = v }) (okOr (netOf (f .bytes)) (fault BadField n (f .place))) x h in
-    subst (λ (y : NetAt). y .value ≤ 127) (m .2) (net-read (f .bytes) (m .0) (or-ok (netOf (f .bytes)) (fault BadField n (f .place)) (m .0) (m .1)) .small)
-
-nets-low : (n : ℕ) (fs : List Part) (xs : List NetAt) → netsAt n fs ≡ Ok xs → Every (λ y. y .value ≤ 127) xs
-nets-low n [] xs h = subst (Every (λ y. y .value ≤ 127)) (same-ok [] xs h) tt
-nets-low n (f ∷ fs) xs h =
-    let o = then-ok (netAt n f) (λ x. mapOk (λ ys. x ∷ ys) (netsAt n fs)) xs h in
-    let m = map-ok (λ ys. o .0 ∷ ys) (netsAt n fs) xs (o .2) in
-    subst (Every (λ y. y .value ≤ 127)) (m .2) (net-low n f (o .0) (o .1), nets-low n fs (m .0) (m .1))
-
 pub shown-proper : {R K I : Type 0} (f : Format K I) (shown : R → K × List NetAt) (k : K) (n p : ℕ) (fs : List Part) (r : Result R Fault)
   → mapOk shown r ≡ mapOk (λ xs. (k, xs)) (netsCounted (f .takes k) n p fs) → made r (λ x. Proper f (shown x))
 shown-proper f shown k n p fs (Err e) h = tt
 shown-proper {K = K} f shown k n p fs (Ok x) h =
     let m = map-ok {Y = K × List NetAt} (λ xs. (k, xs)) (netsCounted (f .takes k) n p fs) (shown x) (sym h) in
     let y = yes-ok (f .takes k (length fs)) (netsAt n fs) (fault FieldCount n p) (m .0) (m .1) in
-    subst (Proper f) (m .2) (record { takes = ap (f .takes k) (nets-many n fs (m .0) (y .1)) ∙ y .0; numbers = nets-low n fs (m .0) (y .1) })
+    let nets = nets-at n fs (m .0) (y .1) in
+    subst (Proper f) (m .2) (record { takes = ap (f .takes k) (sym (nets .1)) ∙ y .0; numbers = nets .0 .numbers })

@@ -1,19 +1,28 @@
--- A net number has one spelling, which is a field in form. Assumes nothing.
+-- A net number has one spelling, which is a field in form, and so has a row of them. Assumes nothing.
 use mathlib.Core.Path.{_≡_, refl, sym, ap, subst, _∙_}
 use mathlib.Core.Bool.{true, _&&_, _||_}
-use mathlib.Core.List.{List, [], _∷_, _++_}
+use mathlib.Core.List.{List, [], _∷_, _++_, map}
 use mathlib.Core.Logic.{⊎-elim}
-use Prim.Native.Nat.{ℕ, _+_, _-_, _*_, _/_, _%_, _≤_, _<_}
+use Prim.Native.Nat.{ℕ, suc, _+_, _-_, _*_, _/_, _%_, _≤_, _<_}
 use native.Mathlib.Omega.{arith}
 use lib.Dec.{leb, eqb}
+use lib.ListN.{length}
 use Rattle.std.specs.declared.option.Option.the-variants.{Some}
+use Rattle.std.specs.declared.result.Result.the-variants.{Ok}
+use Rattle.std.specs.Options.{okOr}
 use Rattle.std.specs.Written.{decimal}
 use Rattle.std.proofs.shelf.Decimals.{decimal-digit, decimal-step}
 use Rattle.std.proofs.shelf.Tests.{cond-true, and-parts, and-from, or-cases, leb-true, le-leb, eqb-true, cases-lt}
-use Rattle.text.specs.Lines.{graphic, allOf, fieldFormed}
-use Rattle.text.proofs.Steps.{off-on, none-some, same-some, if-some}
-use Rattle.text.proofs.Rows.{all-imply}
+use Rattle.cell.specs.Circuits.{Numbered}
+use Rattle.text.specs.declared.fault.Reason.the-variants.{BadField}
+use Rattle.text.specs.Faults.{fault}
+use Rattle.text.specs.Outcomes.{mapOk}
+use Rattle.text.specs.Lines.{Part, graphic, allOf, fieldFormed}
+use Rattle.text.proofs.Steps.{off-on, none-some, same-ok, same-some, if-some, then-ok, map-ok, or-ok}
+use Rattle.text.proofs.Rows.{raw, all-imply}
+use Rattle.records.specs.declared.NetAt.{NetAt}
 use Rattle.records.specs.Numbers.{netOf, isName, nameByte, digit, leading, atMost127}
+use Rattle.records.specs.Records.{netAt, netsAt, values}
 
 -- a number below 1000 in digits
 
@@ -150,3 +159,25 @@ name-graphic b h =
 pub name-field : (bs : List ℕ) → isName bs ≡ true → fieldFormed bs ≡ true
 name-field [] h = off-on h
 name-field (b ∷ bs) h = all-imply nameByte graphic name-graphic (b ∷ bs) (and-parts _ (allOf nameByte (b ∷ bs)) h .1)
+
+-- the fields of a record as nets
+
+pub net-at : (n : ℕ) (f : Part) (x : NetAt) → netAt n f ≡ Ok x → Net (f .bytes) (x .value)
+net-at n f x h =
+    let p = map-ok (λ v. record { place = f .place; value = v }) (okOr (netOf (f .bytes)) (fault BadField n (f .place))) x h in
+    subst (λ (y : NetAt). Net (f .bytes) (y .value)) (p .2) (net-read (f .bytes) (p .0) (or-ok (netOf (f .bytes)) (fault BadField n (f .place)) (p .0) (p .1)))
+
+-- net numbers as fields
+pub record NetFields (fs : List (List ℕ)) (xs : List NetAt) : Type 0 where
+  pub spelled : fs ≡ map decimal (values xs)
+  pub numbers : Numbered (values xs)
+
+pub nets-at : (n : ℕ) (fs : List Part) (xs : List NetAt) → netsAt n fs ≡ Ok xs → NetFields (raw fs) xs × (length fs ≡ length xs)
+nets-at n [] xs h = let P : List NetAt → Type 0 = λ ys. NetFields [] ys × (0 ≡ length ys) in subst P (same-ok [] xs h) (record { spelled = refl; numbers = tt }, refl)
+nets-at n (f ∷ fs) xs h =
+    let o = then-ok (netAt n f) (λ x. mapOk (λ xs. x ∷ xs) (netsAt n fs)) xs h in
+    let m = map-ok (λ xs. o .0 ∷ xs) (netsAt n fs) xs (o .2) in
+    let x = net-at n f (o .0) (o .1) in
+    let more = nets-at n fs (m .0) (m .1) in
+    let P : List NetAt → Type 0 = λ ys. NetFields (raw (f ∷ fs)) ys × (length (f ∷ fs) ≡ length ys) in
+    subst P (m .2) (record { spelled = λ i. x .spelled i ∷ more .0 .spelled i; numbers = (x .small, more .0 .numbers) }, ap suc (more .1))

@@ -1,8 +1,8 @@
 -- The records of a file, of either kind. Assumes nothing.
 use mathlib.Core.Path.{_≡_}
 use mathlib.Core.Bool.{Bool, true, false, cond, _||_}
-use mathlib.Core.List.{List, [], _∷_}
-use Prim.Native.Nat.{ℕ, _≤_}
+use mathlib.Core.List.{List, [], _∷_, map}
+use Prim.Native.Nat.{ℕ}
 use lib.Chars.{codes}
 use lib.ListN.{length}
 use Rattle.std.specs.declared.option.Option.{Option}
@@ -11,7 +11,7 @@ use Rattle.std.specs.declared.result.Result.{Result}
 use Rattle.std.specs.declared.result.Result.the-variants.{Ok, Err}
 use Rattle.std.specs.Options.{okOr, mapped}
 use Rattle.std.specs.shelf.Text.{sameBytes}
-use Rattle.cell.specs.Lists.{Every}
+use Rattle.cell.specs.Circuits.{Numbered}
 use Rattle.text.specs.declared.fault.Fault.{Fault}
 use Rattle.text.specs.declared.fault.Reason.the-variants.{UnknownWord, OutOfTurn, FieldCount, BadField}
 use Rattle.text.specs.Faults.{fault}
@@ -122,10 +122,13 @@ nameAt n f = cond (isName (f .bytes)) (Ok (f .bytes)) (Err (fault BadField n (f 
 abbrev pub netsCounted : (ℕ → Bool) → ℕ → ℕ → List Part → Result (List NetAt) Fault
 netsCounted takes n p fs = cond (takes (length fs)) (netsAt n fs) (Err (fault FieldCount n p))
 
+abbrev pub values : List NetAt → List ℕ
+values xs = map (λ x. x .value) xs
+
 -- what a body record that is read has: as many nets as its kind takes, each a net number
 pub record Proper {K I : Type 0} (f : Format K I) (x : K × List NetAt) : Type 0 where
   pub takes : f .takes (x .0) (length (x .1)) ≡ true
-  pub numbers : Every (λ y. y .value ≤ 127) (x .1)
+  pub numbers : Numbered (values (x .1))
 
 abbrev pub entryOf : {K I : Type 0} → Format K I → ℕ → ℕ → Word K → List Part → Result (Entry K) Fault
 entryOf f n p Cell fs = andThen (oneField n p fs) (λ x. mapOk cell (nameAt n x))

@@ -7,7 +7,7 @@ ghost use Rattle.cell.specs.Circuits.{Gate};
 ghost use Rattle.records.specs.Kinds.{gateKinds, gateWord};
 ghost use Rattle.records.specs.Records.{looked};
 ghost use Rattle.records.specs.Shown.{gateShown};
-ghost use Rattle.files.specs.Reading.{values};
+ghost use Rattle.records.specs.Records.{values};
 ghost use Rattle.files.specs.Files.{intendedFormat, gateOf, driven, isKnown, gateBarred};
 ghost use Rattle.circuits.specs.Bodies.{gateHeld, gatesOf};
 use super::Gates;

@@ -2,7 +2,7 @@ use mathlib.Core.Path.{_≡_, subst, _∙_}
 use native.Mathlib.Omega.{arith}
 use Prim.Native.Nat.{_-_}
 use lib.ListN.{length, take, length-set}
-use Rattle.files.specs.Reading.{values}
+use Rattle.records.specs.Records.{values}
 use Rattle.circuits.proofs.Gating.{input-more, gate-made}
 use Rattle.circuits.proofs.gates.body.gate_of.Needs as need
 

@@ -1,6 +1,6 @@
 use mathlib.Core.Path.{_≡_}
 use lib.ListN.{length, take}
-use Rattle.files.specs.Reading.{values}
+use Rattle.records.specs.Records.{values}
 use Rattle.circuits.proofs.gates.body.gate_of.Given as given
 
 abbrev pub Inv-loop-i : given.InvT-loop-i

@@ -9,7 +9,8 @@ use Rattle.std.specs.Of.Vec.{vec-items}
 use Rattle.std.proofs.shelf.Lists.{map-push}
 use Rattle.std.proofs.shelf.Tests.{cond-true, cond-false, le-leb, lt-leb}
 use Rattle.records.specs.Shown.{netList}
-use Rattle.files.specs.Reading.{values, pushed}
+use Rattle.files.specs.Reading.{pushed}
+use Rattle.records.specs.Records.{values}
 use Rattle.files.specs.Files.{intendedFormat, gateOf, gateBarred}
 use Rattle.circuits.specs.Bodies.{gateHeld, gatesOf}
 use Rattle.circuits.proofs.Gating.{many}
