@@ -50,4 +50,4 @@ few [] ys d sub = zero-le
 few (x ∷ xs) ys d sub =
     subst (λ n. suc (length xs) ≤ n) (without-length x ys (sub x (inl refl)))
     (suc-le-suc (few xs (without x ys (sub x (inl refl))) (d .1)
-        (λ z h. without-in x z ys (sub x (inl refl)) (λ e. d .0 (subst (λ w. In w xs) e h)) (sub z (inr h)))))
+    (λ z h. without-in x z ys (sub x (inl refl)) (λ e. d .0 (subst (λ w. In w xs) e h)) (sub z (inr h)))))

@@ -40,7 +40,7 @@ module _ (gs : List LogicGate) (net i : ℕ) (d : LogicGate) (l : i < length gs)
 -- the nets of a gate that are not allowed, from net i on
 
 more-nets : (ins : List ℕ) (es : List Gate) (x : NetAt) (ys : List NetAt) → 0 < length ys
-  → gateBarred ins es (x ∷ ys) ≡ cond (isKnown ins es (x .value)) (gateBarred ins es ys) (Some (x .place))
+    → gateBarred ins es (x ∷ ys) ≡ cond (isKnown ins es (x .value)) (gateBarred ins es ys) (Some (x .place))
 more-nets ins es x [] h = absurd (omega arith)
 more-nets ins es x (y ∷ ys) h = refl
 
@@ -53,7 +53,7 @@ module _ (ins : List ℕ) (es : List Gate) (nets : List NetAt) (i : ℕ) (d : Ne
 
   -- the last net is the output
   turn : (known output : Bool) → known ≡ isKnown ins es (here .value) → output ≡ eqb (i + 1) (length nets)
-    → gateBarred ins es (drop i nets) ≡ cond output (cond known (Some (here .place)) None) (cond known (gateBarred ins es later) (Some (here .place)))
+      → gateBarred ins es (drop i nets) ≡ cond output (cond known (Some (here .place)) None) (cond known (gateBarred ins es later) (Some (here .place)))
   turn known true k o =
       let end = eqb-true (i + 1) (length nets) (sym o) in
       at-drop-more (gateBarred ins es) nets i d l ∙ ap (λ r. gateBarred ins es (here ∷ r)) (drop-all (i + 1) nets (omega arith)) ∙ ap (λ t. cond t (Some (here .place)) None) (sym k)
@@ -71,7 +71,7 @@ module _ (ins : List ℕ) (es : List Gate) (nets : List NetAt) (i : ℕ) (d : Ne
   barred-here known k h = turn known (eqb (i + 1) (length nets)) k refl ∙ choose known (eqb (i + 1) (length nets)) h
 
   go-on : (known output : Bool) → output ≡ eqb (i + 1) (length nets) → Bool·beq known output ≡ false
-    → cond output (cond known (Some (here .place)) None) (cond known (gateBarred ins es later) (Some (here .place))) ≡ gateBarred ins es later
+      → cond output (cond known (Some (here .place)) None) (cond known (gateBarred ins es later) (Some (here .place))) ≡ gateBarred ins es later
   go-on true true o h = let z : _≡_ {A = ℕ} 0 1 = cc in absurd (omega arith)
   go-on true false o h = refl
   go-on false true o h = let end = eqb-true (i + 1) (length nets) (sym o) in sym (ap (gateBarred ins es) (drop-all (i + 1) nets (omega arith)))
@@ -83,14 +83,14 @@ module _ (ins : List ℕ) (es : List Gate) (nets : List NetAt) (i : ℕ) (d : Ne
 -- the inputs of a gate, one by one
 
 pub input-more : (xs : List ℕ) (nets : List NetAt) (i : ℕ) (d : NetAt) → i < length xs → i < length nets → take i xs ≡ take i (values nets)
-  → take (i + 1) (set xs i (getD nets i d .value)) ≡ take (i + 1) (values nets)
+    → take (i + 1) (set xs i (getD nets i d .value)) ≡ take (i + 1) (values nets)
 input-more xs nets i d l m h =
     take-more-set xs i (getD nets i d .value) l
     ∙ (λ j. (h j) ++ (sym (getD-map (λ (x : NetAt). x .value) nets i d 0 m) j ∷ []))
     ∙ sym (take-more (values nets) i 0 (omega (arith, length-map nets (λ (x : NetAt). x .value))))
 
 pub gate-made : (k : GateKind) (inputs : List ℕ) (nets : List NetAt) (d : NetAt) → 0 < length nets → take (length nets - 1) inputs ≡ take (length nets - 1) (values nets)
-  → _≡_ {A = Gate} (record { kind = k; inputs = take (length nets - 1) inputs; output = getD nets (length nets - 1) d .value }) (gateOf k (values nets))
+    → _≡_ {A = Gate} (record { kind = k; inputs = take (length nets - 1) inputs; output = getD nets (length nets - 1) d .value }) (gateOf k (values nets))
 gate-made k inputs nets d some h =
     let long : length (values nets) ≡ length nets = length-map nets (λ (x : NetAt). x .value) in
     let last : getD (values nets) (length nets - 1) 0 ≡ getD nets (length nets - 1) d .value = getD-map (λ (x : NetAt). x .value) nets (length nets - 1) d 0 (omega arith) in

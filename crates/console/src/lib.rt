@@ -6,9 +6,18 @@ use std::io;
 use std::io::Write;
 
 // Reads a pair of texts and prints its line: the first decline, or how much was read.
-pub fn print_pair(rt: &LibcRuntime, station: &mut Station, drawn: &[u8], intended: &[u8]) -> io::Result<()> {
+pub fn print_pair(
+    rt: &LibcRuntime,
+    station: &mut Station,
+    drawn: &[u8],
+    intended: &[u8],
+) -> io::Result<()> {
     match station.read_pair(drawn, intended) {
-        Ok(read) => println!(rt, "READ\t{}\t{}\t{}\t{}", read.ins, read.outs, read.devices, read.gates),
+        Ok(read) => println!(
+            rt,
+            "READ\t{}\t{}\t{}\t{}",
+            read.ins, read.outs, read.devices, read.gates
+        ),
         Err(decline) => {
             let mut page = [0; PAGE];
             let length = report_decline(&decline, &mut page).unwrap_or(0);

@@ -33,9 +33,9 @@ module _ {K I : Type 0} (f : Format K I) where
   nothing-after n p [] h = refl
   nothing-after n p (l ∷ []) h = nil-is l (yes-ok (isNil l) (Ok tt) (fault MalformedLine n p) tt h .0)
     where
-    nil-is : (l : List ℕ) → isNil l ≡ true → l ≡ []
-    nil-is [] h = refl
-    nil-is (b ∷ l) h = off-on h
+      nil-is : (l : List ℕ) → isNil l ≡ true → l ≡ []
+      nil-is [] h = refl
+      nil-is (b ∷ l) h = off-on h
   nothing-after n p (l ∷ m ∷ ls) h = err-ok _ _ h
 
   -- a reading that gives a circuit came to END, found nothing there and nothing after it

@@ -22,4 +22,3 @@ not-listed x (y ∷ ys) h = or-from (eqb y x) (member x ys) (ne-eqb y x (λ e. h
 pub present : (x : ℕ) (xs : List ℕ) → member x xs ≡ true → In x xs
 present x [] h = absurd (true≢false (sym h))
 present x (y ∷ ys) h = ⊎-elim (λ e. inl (sym (eqb-true y x e))) (λ e. inr (present x ys e)) (or-cases (eqb y x) (member x ys) h)
-

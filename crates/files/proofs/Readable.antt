@@ -78,14 +78,17 @@ since-some s t (x ∷ xs) h = refl
 
 -- a run of records that are read one after another; `at` reads from a line and a place on
 module _ {X Z : Type 0} (g : X → List ℕ) (Q : List X → X → Type 0) (most : ℕ) (at : List X → ℕ → ℕ → List ℕ → Z)
-  (step : (done : List X) (x : X) (rest : List ℕ) (n p : ℕ) → Q done x → length done < most → (m : ℕ) × (q : ℕ) × (at done n p (g x ++ rest) ≡ at (done ++ x ∷ []) m q rest)) where
+    (step : (done : List X) (x : X) (rest : List ℕ) (n p : ℕ) → Q done x → length done < most → (m : ℕ) × (q : ℕ) × (at done n p (g x ++ rest) ≡ at (done ++ x ∷ []) m q rest)) where
   -- from a list that is done, the rest of its rows
   abbrev Runs : List X → List X → List ℕ → ℕ → ℕ → Type 0
   Runs xs done tail n p = (m : ℕ) × (q : ℕ) × (at done n p (joined g xs ++ tail) ≡ at (done ++ xs) m q tail)
 
   run-more : (x : X) (xs done : List X) (tail : List ℕ) (n p m q : ℕ) → at done n p (g x ++ (joined g xs ++ tail)) ≡ at (done ++ x ∷ []) m q (joined g xs ++ tail) → Runs xs (done ++ x ∷ []) tail m q → Runs (x ∷ xs) done tail n p
-  run-more x xs done tail n p m q e more = (more .0, more .1,
-      ap (at done n p) (append-assoc (g x) (joined g xs) tail) ∙ e ∙ more .2 ∙ ap (λ d. at d (more .0) (more .1) tail) (append-assoc done (x ∷ []) xs))
+  run-more x xs done tail n p m q e more = (
+    more .0,
+    more .1,
+    ap (at done n p) (append-assoc (g x) (joined g xs) tail) ∙ e ∙ more .2 ∙ ap (λ d. at d (more .0) (more .1) tail) (append-assoc done (x ∷ []) xs),
+  )
 
   run : (xs done : List X) (tail : List ℕ) (n p : ℕ) → Along Q done xs → length done + length xs ≤ most → Runs xs done tail n p
   run [] done tail n p a l = (n, p, ap (λ d. at d n p tail) (sym (append-nil done)))
@@ -102,7 +105,7 @@ module _ {K I : Type 0} (f : Format K I) where
 
   -- a row is read as its record, and the reading goes on
   row-done : (g : List ℕ) (fs : List (List ℕ)) (rest : List ℕ) (s t : Stage) (c d : Circuit I) (e : Entry K) (n p : ℕ) → allOf fieldFormed (g ∷ fs) ≡ true → recordOf f s n p (placed p (g ∷ fs)) ≡ Ok (t, e) → added f c n p e ≡ Ok d
-    → linesRead f s c n p (split 10 (row (g ∷ fs) ++ rest))
+      → linesRead f s c n p (split 10 (row (g ∷ fs) ++ rest))
       ≡ ifClosed t (Ok (record { circuit = d; line = n; place = p; next = p + length (rejoined 9 (g ∷ fs)) + 1; rest = split 10 rest })) (linesRead f t d (n + 1) (p + length (rejoined 9 (g ∷ fs)) + 1) (split 10 rest))
   row-done g fs rest s t c d e n p a r h =
       let l = rejoined 9 (g ∷ fs) in
@@ -111,10 +114,10 @@ module _ {K I : Type 0} (f : Format K I) where
       let fields = split-row g fs a in
       let good : formed l ≡ true = ap (allOf fieldFormed) fields ∙ a in
       let step : lineRead f s c n p l ≡ Ok (t, d) =
-          cond-true (formed l) _ (Err (fault MalformedLine n p)) good
-          ∙ ap (λ u. andThen (recordOf f s n p (placed p u)) (λ r. mapOk (λ d. (r .0, d)) (added f c n p (r .1)))) fields
-          ∙ ap (λ u. andThen u (λ r. mapOk (λ d. (r .0, d)) (added f c n p (r .1)))) r
-          ∙ ap (mapOk (λ d. (t, d))) h in
+      cond-true (formed l) _ (Err (fault MalformedLine n p)) good
+      ∙ ap (λ u. andThen (recordOf f s n p (placed p u)) (λ r. mapOk (λ d. (r .0, d)) (added f c n p (r .1)))) fields
+      ∙ ap (λ u. andThen u (λ r. mapOk (λ d. (r .0, d)) (added f c n p (r .1)))) r
+      ∙ ap (mapOk (λ d. (t, d))) h in
       ap (λ u. linesRead f s c n p (split 10 u)) (append-assoc l (10 ∷ []) rest)
       ∙ ap (linesRead f s c n p) (cut-row g fs rest a)
       ∙ split-cons (λ ls. linesRead f s c n p (l ∷ ls) ≡ andThen (lineRead f s c n p l) (next ls)) (λ m ms. refl) 10 rest
@@ -132,12 +135,15 @@ module _ {K I : Type 0} (f : Format K I) where
       refl
 
   in-done : (name ins : List ℕ) (x : ℕ) (rest : List ℕ) (n p : ℕ) → FreshIn ins x → length ins < 16
-    → (m : ℕ) × (q : ℕ) × (from Inputs (plan name ins [] []) n p (inRow x ++ rest) ≡ from Inputs (plan name (ins ++ x ∷ []) [] []) m q rest)
-  in-done name ins x rest n p r k = (_, _,
-      row-done (codes "IN") (decimal x ∷ []) rest Inputs Inputs (plan name ins [] []) (plan name (ins ++ x ∷ []) [] []) (input (record { place = p + 2 + 1; value = x })) n p
-      (and-from true (fieldFormed (decimal x) && true) refl (and-from (fieldFormed (decimal x)) true (net-spelled x (r .number) .field) refl))
-      (ap (λ u. mapOk (λ e. (Inputs, e)) (mapOk input u)) (net-from n (p + 2 + 1) x (r .number)))
-      (cond-false (leb 16 (length ins)) _ _ (lt-leb 16 (length ins) k) ∙ cond-false (rail x || member x ins) _ _ (or-from (rail x) (member x ins) (le-ltb x 2 (r .no-rail)) (not-listed x ins (r .new)))))
+      → (m : ℕ) × (q : ℕ) × (from Inputs (plan name ins [] []) n p (inRow x ++ rest) ≡ from Inputs (plan name (ins ++ x ∷ []) [] []) m q rest)
+  in-done name ins x rest n p r k = (
+    _,
+    _,
+    row-done (codes "IN") (decimal x ∷ []) rest Inputs Inputs (plan name ins [] []) (plan name (ins ++ x ∷ []) [] []) (input (record { place = p + 2 + 1; value = x })) n p
+        (and-from true (fieldFormed (decimal x) && true) refl (and-from (fieldFormed (decimal x)) true (net-spelled x (r .number) .field) refl))
+        (ap (λ u. mapOk (λ e. (Inputs, e)) (mapOk input u)) (net-from n (p + 2 + 1) x (r .number)))
+        (cond-false (leb 16 (length ins)) _ _ (lt-leb 16 (length ins) k) ∙ cond-false (rail x || member x ins) _ _ (or-from (rail x) (member x ins) (le-ltb x 2 (r .no-rail)) (not-listed x ins (r .new)))),
+  )
 
   -- an OUT may come after the INs and after an OUT
   out-turn : (outs : List ℕ) (n p : ℕ) → turned {K = K} (since Inputs Outputs outs) Out n p ≡ Ok Outputs
@@ -145,16 +151,18 @@ module _ {K I : Type 0} (f : Format K I) where
   out-turn (x ∷ xs) n p = refl
 
   out-done : (name ins outs : List ℕ) (x : ℕ) (rest : List ℕ) (n p : ℕ) → FreshOut ins outs x → length outs < 16
-    → (m : ℕ) × (q : ℕ) × (from (since Inputs Outputs outs) (plan name ins outs []) n p (outRow x ++ rest) ≡ from (since Inputs Outputs (outs ++ x ∷ [])) (plan name ins (outs ++ x ∷ []) []) m q rest)
+      → (m : ℕ) × (q : ℕ) × (from (since Inputs Outputs outs) (plan name ins outs []) n p (outRow x ++ rest) ≡ from (since Inputs Outputs (outs ++ x ∷ [])) (plan name ins (outs ++ x ∷ []) []) m q rest)
   out-done name ins outs x rest n p r k =
-      let q = p + length (rejoined 9 (codes "OUT" ∷ decimal x ∷ [])) + 1 in
-      (n + 1, q,
-      row-done (codes "OUT") (decimal x ∷ []) rest (since Inputs Outputs outs) Outputs (plan name ins outs []) (plan name ins (outs ++ x ∷ []) []) (output (record { place = p + 3 + 1; value = x })) n p
-      (and-from true (fieldFormed (decimal x) && true) refl (and-from (fieldFormed (decimal x)) true (net-spelled x (r .number) .field) refl))
-      (ap (λ t. andThen t (λ t. mapOk (λ e. (t, e)) (mapOk output (netAt n (record { place = p + 3 + 1; bytes = decimal x }))))) (out-turn outs n p) ∙ ap (λ u. mapOk (λ e. (Outputs, e)) (mapOk output u)) (net-from n (p + 3 + 1) x (r .number)))
-      (cond-false (leb 16 (length outs)) _ _ (lt-leb 16 (length outs) k)
-        ∙ cond-false (rail x || member x ins || member x outs) _ _ (or-from (rail x || member x ins) (member x outs) (or-from (rail x) (member x ins) (le-ltb x 2 (r .no-rail)) (not-listed x ins (r .no-in))) (not-listed x outs (r .new))))
-      ∙ ap (λ s. from s (plan name ins (outs ++ x ∷ []) []) (n + 1) q rest) (sym (since-more Inputs Outputs outs x)))
+      let q = p + length (rejoined 9 (codes "OUT" ∷ decimal x ∷ [])) + 1 in (
+        n + 1,
+        q,
+        row-done (codes "OUT") (decimal x ∷ []) rest (since Inputs Outputs outs) Outputs (plan name ins outs []) (plan name ins (outs ++ x ∷ []) []) (output (record { place = p + 3 + 1; value = x })) n p
+            (and-from true (fieldFormed (decimal x) && true) refl (and-from (fieldFormed (decimal x)) true (net-spelled x (r .number) .field) refl))
+            (ap (λ t. andThen t (λ t. mapOk (λ e. (t, e)) (mapOk output (netAt n (record { place = p + 3 + 1; bytes = decimal x }))))) (out-turn outs n p) ∙ ap (λ u. mapOk (λ e. (Outputs, e)) (mapOk output u)) (net-from n (p + 3 + 1) x (r .number)))
+            (cond-false (leb 16 (length outs)) _ _ (lt-leb 16 (length outs) k)
+            ∙ cond-false (rail x || member x ins || member x outs) _ _ (or-from (rail x || member x ins) (member x outs) (or-from (rail x) (member x ins) (le-ltb x 2 (r .no-rail)) (not-listed x ins (r .no-in))) (not-listed x outs (r .new))))
+            ∙ ap (λ s. from s (plan name ins (outs ++ x ∷ []) []) (n + 1) q rest) (sym (since-more Inputs Outputs outs x)),
+      )
 
   -- a body record and END may come after an OUT and after a body record
   item-turn : (items : List I) (k : K) (n p : ℕ) → turned (since Outputs Body items) (Item k) n p ≡ Ok Body
@@ -172,7 +180,7 @@ module _ {K I : Type 0} (f : Format K I) where
 
   module _ (facts : FormatFacts f) where
     item-record : (items : List I) (k : K) (xs : List ℕ) (n p : ℕ) → f .takes k (length xs) ≡ true → Numbered xs
-      → recordOf f (since Outputs Body items) n p (placed p (f .word k ∷ map decimal xs)) ≡ Ok (Body, item k (netsFrom (p + length (f .word k) + 1) xs))
+        → recordOf f (since Outputs Body items) n p (placed p (f .word k ∷ map decimal xs)) ≡ Ok (Body, item k (netsFrom (p + length (f .word k) + 1) xs))
     item-record items k xs n p t h =
         let s = since Outputs Body items in
         let q = p + length (f .word k) + 1 in
@@ -183,7 +191,7 @@ module _ {K I : Type 0} (f : Format K I) where
         ∙ ap (λ r. mapOk (λ e. (Body, e)) (mapOk (item k) r)) (cond-true (f .takes k (length fs)) (netsAt n fs) (Err (fault FieldCount n p)) (ap (f .takes k) many ∙ t) ∙ nets-from n q xs h)
 
     item-done : (name ins outs : List ℕ) (items : List I) (i : I) (rest : List ℕ) (n p : ℕ) → f .Rule ins items i → length items < f .most
-      → (m : ℕ) × (q : ℕ) × (from (since Outputs Body items) (plan name ins outs items) n p (itemRow f i ++ rest) ≡ from (since Outputs Body (items ++ i ∷ [])) (plan name ins outs (items ++ i ∷ [])) m q rest)
+        → (m : ℕ) × (q : ℕ) × (from (since Outputs Body items) (plan name ins outs items) n p (itemRow f i ++ rest) ≡ from (since Outputs Body (items ++ i ∷ [])) (plan name ins outs (items ++ i ∷ [])) m q rest)
     item-done name ins outs items i rest n p r few =
         let k = f .kind i in
         let nets = f .nets i in
@@ -193,13 +201,15 @@ module _ {K I : Type 0} (f : Format K I) where
         let q = p + length (rejoined 9 (f .word k ∷ map decimal nets)) + 1 in
         let wrap : List I → Circuit I = plan name ins outs in
         let put : pushed f items n k xs (f .barred ins items xs) ≡ Ok (items ++ i ∷ []) =
-            ap (pushed f items n k xs) (facts .allowed ins items i r xs same) ∙ ap (λ j. Ok (items ++ j ∷ [])) (ap (f .item k) same ∙ facts .back i) in
-        (n + 1, q,
-        row-done (f .word k) (map decimal nets) rest (since Outputs Body items) Body (plan name ins outs items) (plan name ins outs (items ++ i ∷ [])) (item k xs) n p
-        (and-from _ _ (facts .field k) (nets-formed nets numbers))
-        (item-record items k nets n p (facts .takes ins items i r) numbers)
-        (ap (mapOk wrap) (cond-false (leb (f .most) (length items)) (Err (fault TooManyRecords n p)) _ (lt-leb (f .most) (length items) few) ∙ put))
-        ∙ ap (λ s. from s (plan name ins outs (items ++ i ∷ [])) (n + 1) q rest) (sym (since-more Outputs Body items i)))
+        ap (pushed f items n k xs) (facts .allowed ins items i r xs same) ∙ ap (λ j. Ok (items ++ j ∷ [])) (ap (f .item k) same ∙ facts .back i) in (
+          n + 1,
+          q,
+          row-done (f .word k) (map decimal nets) rest (since Outputs Body items) Body (plan name ins outs items) (plan name ins outs (items ++ i ∷ [])) (item k xs) n p
+              (and-from _ _ (facts .field k) (nets-formed nets numbers))
+              (item-record items k nets n p (facts .takes ins items i r) numbers)
+              (ap (mapOk wrap) (cond-false (leb (f .most) (length items)) (Err (fault TooManyRecords n p)) _ (lt-leb (f .most) (length items) few) ∙ put))
+              ∙ ap (λ s. from s (plan name ins outs (items ++ i ∷ [])) (n + 1) q rest) (sym (since-more Outputs Body items i)),
+        )
 
     -- c is read up to END, and nothing follows
     pub record Whole (c : Circuit I) (r : Result (Ended I) Fault) : Type 0 where
@@ -244,6 +254,6 @@ module _ {K I : Type 0} (f : Format K I) where
       readable =
           onward c _ _
           (cond-true (leb (length (written f c)) 32768) _ (Err (fault TextTooLong 0 0)) (le-leb (length (written f c)) 32768 (written-short f facts c law))
-            ∙ ap (from Opening blank 1 0) (grouped (cellRow (c .name)) (joined inRow (c .ins)) (joined outRow (c .outs)) (joined (itemRow f) (c .body)) (row (codes "END" ∷ [])))
-            ∙ cell-done (c .name) fromIns (law .name))
+          ∙ ap (from Opening blank 1 0) (grouped (cellRow (c .name)) (joined inRow (c .ins)) (joined outRow (c .outs)) (joined (itemRow f) (c .body)) (row (codes "END" ∷ [])))
+          ∙ cell-done (c .name) fromIns (law .name))
           (read-ins 2 (0 + length (rejoined 9 (codes "CELL" ∷ c .name ∷ [])) + 1))

@@ -134,7 +134,7 @@ module _ {K I : Type 0} (f : Format K I) where
 
   module _ (facts : FormatFacts f) where
     item-grown : (c : Circuit I) (y : K) (xs : List NetAt) (fs : List (List ℕ)) (t : List ℕ) → Going f c t → NetFields fs xs → f .takes y (length xs) ≡ true → length (c .body) < f .most → f .barred (c .ins) (c .body) xs ≡ None
-      → Going f (withBody c (c .body ++ f .item y (values xs) ∷ [])) (t ++ row (f .word y ∷ fs))
+        → Going f (withBody c (c .body ++ f .item y (values xs) ∷ [])) (t ++ row (f .word y ∷ fs))
     item-grown c y xs fs t r nets takes few free =
         let i = f .item y (values xs) in
         let all : f .takes y (length (values xs)) ≡ true = ap (f .takes y) (length-map xs (λ x. x .value)) ∙ takes in
@@ -151,19 +151,23 @@ module _ {K I : Type 0} (f : Format K I) where
             few-items = omega (arith, push-length (c .body) i);
           };
           text = (λ j. r .text j ++ row (f .word y ∷ nets .spelled j))
-            ∙ ap (λ l. rows f c ++ l) (sym same)
-            ∙ rows-item (itemRow f) (cellRow (c .name)) (joined inRow (c .ins)) (joined outRow (c .outs)) (c .body) i;
+              ∙ ap (λ l. rows f c ++ l) (sym same)
+              ∙ rows-item (itemRow f) (cellRow (c .name)) (joined inRow (c .ins)) (joined outRow (c .outs)) (c .body) i;
         }
 
     grown : (w : Word K) (s : Stage) (c d : Circuit I) (n p : ℕ) (e : Entry K) (fs : List (List ℕ)) (t : List ℕ) → mayFollow s w ≡ true → Hold s c t → After f w e fs → added f c n p e ≡ Ok d → Hold (lastRead w) d (t ++ row (spelled f w ∷ fs))
     grown Cell s c d n p e fs t h k a g =
         let here = held-cell s c t h k in
         let new : record { name = a .0; ins = []; outs = []; body = [] } ≡ d =
-            ap (λ (b : Circuit I). record { name = a .0; ins = b .ins; outs = b .outs; body = b .body }) (sym (here .0)) ∙ same-ok _ d (ap (added f c n p) (sym (a .1)) ∙ g) in
-        subst (λ b. Hold Inputs b (t ++ row (codes "CELL" ∷ fs))) new (record {
+        ap (λ (b : Circuit I). record { name = a .0; ins = b .ins; outs = b .outs; body = b .body }) (sym (here .0)) ∙ same-ok _ d (ap (added f c n p) (sym (a .1)) ∙ g) in
+        subst (λ b. Hold Inputs b (t ++ row (codes "CELL" ∷ fs))) new (
+          record {
             rules = record { name = a .3; ins = tt; few-ins = omega arith; outs = tt; few-outs = omega arith; body = tt; few-items = omega arith };
             text = (λ i. here .1 i ++ row (codes "CELL" ∷ a .2 i)) ∙ sym (append-nil (cellRow (a .0)));
-          }, refl, refl)
+          },
+          refl,
+          refl,
+        )
     grown In s c d n p e fs t h k a g =
         let r = held-in s c t h k in
         let x = a .0 .value in
@@ -172,7 +176,8 @@ module _ {K I : Type 0} (f : Format K I) where
         let parts = or-parts (rail x) (member x (c .ins)) (free .0) in
         let few = leb-false 16 (length (c .ins)) (room .0) in
         let rules = r .0 .rules in
-        subst (λ b. Hold Inputs b (t ++ row (codes "IN" ∷ fs))) (same-ok _ d (free .1)) (record {
+        subst (λ b. Hold Inputs b (t ++ row (codes "IN" ∷ fs))) (same-ok _ d (free .1)) (
+          record {
             rules = record {
               name = rules .name;
               ins = along-push FreshIn [] (c .ins) x (rules .ins) (record { no-rail = ltb-false x 2 (parts .0); number = a .3; new = absent x (c .ins) (parts .1) });
@@ -183,8 +188,11 @@ module _ {K I : Type 0} (f : Format K I) where
               few-items = rules .few-items;
             };
             text = (λ i. r .0 .text i ++ row (codes "IN" ∷ a .2 i))
-              ∙ row-more inRow (cellRow (c .name)) (c .ins) x (joined outRow (c .outs) ++ joined (itemRow f) (c .body)) (λ i. joined outRow (r .1 i) ++ joined (itemRow f) (r .2 i));
-          }, r .1, r .2)
+                ∙ row-more inRow (cellRow (c .name)) (c .ins) x (joined outRow (c .outs) ++ joined (itemRow f) (c .body)) (λ i. joined outRow (r .1 i) ++ joined (itemRow f) (r .2 i));
+          },
+          r .1,
+          r .2,
+        )
     grown Out s c d n p e fs t h k a g =
         let r = held-out s c t h k in
         let x = a .0 .value in
@@ -194,7 +202,8 @@ module _ {K I : Type 0} (f : Format K I) where
         let parts = or-parts (rail x) (member x (c .ins)) (both .0) in
         let few = leb-false 16 (length (c .outs)) (room .0) in
         let rules = r .0 .rules in
-        subst (λ b. Hold Outputs b (t ++ row (codes "OUT" ∷ fs))) (same-ok _ d (free .1)) (record {
+        subst (λ b. Hold Outputs b (t ++ row (codes "OUT" ∷ fs))) (same-ok _ d (free .1)) (
+          record {
             rules = record {
               name = rules .name;
               ins = rules .ins;
@@ -205,8 +214,11 @@ module _ {K I : Type 0} (f : Format K I) where
               few-items = rules .few-items;
             };
             text = (λ i. r .0 .text i ++ row (codes "OUT" ∷ a .2 i))
-              ∙ rows-out outRow (cellRow (c .name)) (joined inRow (c .ins)) (c .outs) x (joined (itemRow f) (c .body)) (ap (joined (itemRow f)) (r .1));
-          }, r .1, omega (arith, push-length (c .outs) x))
+                ∙ rows-out outRow (cellRow (c .name)) (joined inRow (c .ins)) (c .outs) x (joined (itemRow f) (c .body)) (ap (joined (itemRow f)) (r .1));
+          },
+          r .1,
+          omega (arith, push-length (c .outs) x),
+        )
     grown (Item y) s c d n p e fs t h k a g =
         let r = held-end s c t (sym (like-end s y) ∙ h) k in
         let m = map-ok (withBody c) (addedItem f (c .ins) (c .body) n p y (a .0)) d (ap (added f c n p) (sym (a .1)) ∙ g) in
@@ -217,10 +229,10 @@ module _ {K I : Type 0} (f : Format K I) where
     grown End s c d n p e fs t h k a g =
         let r = held-end s c t h k in
         subst (λ b. Hold Closed b (t ++ row (codes "END" ∷ fs))) (same-ok c d (ap (added f c n p) (sym (a .0)) ∙ g)) (record {
-            rules = r .0 .rules;
-            some-outs = r .1;
-            text = λ i. r .0 .text i ++ row (codes "END" ∷ a .1 i);
-          })
+          rules = r .0 .rules;
+          some-outs = r .1;
+          text = λ i. r .0 .text i ++ row (codes "END" ∷ a .1 i);
+        })
 
     line-added : (s : Stage) (c d : Circuit I) (n p : ℕ) (l : List ℕ) (r : Stage × Circuit I) (t : List ℕ) (u : Stage × Entry K) → Read f s (u .0) (u .1) (raw (fieldsOf p l)) → added f c n p (u .1) ≡ Ok d → (u .0, d) ≡ r → Hold s c t → Hold (r .0) (r .1) (t ++ (l ++ 10 ∷ []))
     line-added s c d n p l r t u q g is k =
@@ -245,7 +257,7 @@ module _ {K I : Type 0} (f : Format K I) where
     at-line Closed c t fin e more Z h k x y = x k (same-ok fin e h)
 
     pub lines-done : (ls : List (List ℕ)) (s : Stage) (c : Circuit I) (n p : ℕ) (t : List ℕ) (e : Ended I) → linesRead f s c n p ls ≡ Ok e → Hold s c t
-      → (u : List ℕ) × Done f (e .circuit) u × (t ++ rejoined 10 ls ≡ u ++ rejoined 10 (e .rest))
+        → (u : List ℕ) × Done f (e .circuit) u × (t ++ rejoined 10 ls ≡ u ++ rejoined 10 (e .rest))
     lines-done [] s c n p t e h k = err-ok _ _ h
     lines-done (l ∷ []) s c n p t e h k = err-ok _ _ h
     lines-done (l ∷ m ∷ ls) s c n p t e h k =

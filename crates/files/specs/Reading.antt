@@ -14,7 +14,7 @@ use Rattle.text.specs.declared.fault.Fault.{Fault}
 use Rattle.text.specs.declared.fault.Reason.{Reason}
 use Rattle.text.specs.declared.fault.Reason.the-variants.{TextTooLong, MalformedLine, OutOfTurn, TooManyRecords, NetNotAllowed}
 use Rattle.text.specs.Faults.{fault}
-use Rattle.text.specs.Outcomes.{andThen, mapOk}
+use Rattle.text.specs.Outcomes.{declineIf, andThen, mapOk}
 use Rattle.text.specs.Lines.{formed, isNil, linesFrom, fieldsOf}
 use Rattle.records.specs.declared.NetAt.{NetAt}
 use Rattle.records.specs.declared.Stage.{Stage}
@@ -37,11 +37,17 @@ rail x = ltb x 2
 
 -- at most 16 IN; an IN is no rail and no earlier IN
 abbrev pub addedIn : {I : Type 0} → Circuit I → ℕ → ℕ → NetAt → Result (Circuit I) Fault
-addedIn c n p x = cond (leb 16 (length (c .ins))) (Err (fault TooManyRecords n p)) (cond (rail (x .value) || member (x .value) (c .ins)) (Err (fault NetNotAllowed n (x .place))) (Ok (record { name = c .name; ins = c .ins ++ x .value ∷ []; outs = c .outs; body = c .body })))
+addedIn c n p x =
+    declineIf (leb 16 (length (c .ins))) (fault TooManyRecords n p)
+    (declineIf (rail (x .value) || member (x .value) (c .ins)) (fault NetNotAllowed n (x .place))
+    (Ok (record { name = c .name; ins = c .ins ++ x .value ∷ []; outs = c .outs; body = c .body })))
 
 -- at most 16 OUT; an OUT is no rail, no IN and no earlier OUT
 abbrev pub addedOut : {I : Type 0} → Circuit I → ℕ → ℕ → NetAt → Result (Circuit I) Fault
-addedOut c n p x = cond (leb 16 (length (c .outs))) (Err (fault TooManyRecords n p)) (cond (rail (x .value) || member (x .value) (c .ins) || member (x .value) (c .outs)) (Err (fault NetNotAllowed n (x .place))) (Ok (record { name = c .name; ins = c .ins; outs = c .outs ++ x .value ∷ []; body = c .body })))
+addedOut c n p x =
+    declineIf (leb 16 (length (c .outs))) (fault TooManyRecords n p)
+    (declineIf (rail (x .value) || member (x .value) (c .ins) || member (x .value) (c .outs)) (fault NetNotAllowed n (x .place))
+    (Ok (record { name = c .name; ins = c .ins; outs = c .outs ++ x .value ∷ []; body = c .body })))
 
 -- a body with one record more, where no net of it is barred
 abbrev pub pushed : {K I : Type 0} → Format K I → List I → ℕ → K → List NetAt → Option ℕ → Result (List I) Fault
@@ -49,7 +55,9 @@ pushed f items n k xs None = Ok (items ++ f .item k (values xs) ∷ [])
 pushed f items n k xs (Some place) = Err (fault NetNotAllowed n place)
 
 abbrev pub addedItem : {K I : Type 0} → Format K I → List ℕ → List I → ℕ → ℕ → K → List NetAt → Result (List I) Fault
-addedItem f ins items n p k xs = cond (leb (f .most) (length items)) (Err (fault TooManyRecords n p)) (pushed f items n k xs (f .barred ins items xs))
+addedItem f ins items n p k xs =
+    declineIf (leb (f .most) (length items)) (fault TooManyRecords n p)
+    (pushed f items n k xs (f .barred ins items xs))
 
 abbrev pub added : {K I : Type 0} → Format K I → Circuit I → ℕ → ℕ → Entry K → Result (Circuit I) Fault
 added f c n p (cell bs) = Ok (record { name = bs; ins = c .ins; outs = c .outs; body = c .body })
@@ -60,7 +68,10 @@ added f c n p finish = Ok c
 
 -- one line: its form, its record and what that adds; and what was read last
 abbrev pub lineRead : {K I : Type 0} → Format K I → Stage → Circuit I → ℕ → ℕ → List ℕ → Result (Stage × Circuit I) Fault
-lineRead f s c n p l = cond (formed l) (andThen (recordOf f s n p (fieldsOf p l)) (λ r. mapOk (λ d. (r .0, d)) (added f c n p (r .1)))) (Err (fault MalformedLine n p))
+lineRead f s c n p l =
+    cond (formed l)
+    (andThen (recordOf f s n p (fieldsOf p l)) (λ r. mapOk (λ d. (r .0, d)) (added f c n p (r .1))))
+    (Err (fault MalformedLine n p))
 
 -- the text up to its END record: the circuit, where END stands, and the place and the lines after it
 pub record Ended (I : Type 0) : Type 0 where
@@ -87,11 +98,14 @@ abbrev pub linesRead : {K I : Type 0} → Format K I → Stage → Circuit I →
 linesRead f s c n p [] = Err (cutShort n p [])
 linesRead f s c n p (l ∷ []) = Err (cutShort n p l)
 linesRead f s c n p (l ∷ m ∷ ls) = andThen (lineRead f s c n p l) (λ r. ifClosed (r .0)
-  (Ok (record { circuit = r .1; line = n; place = p; next = p + length l + 1; rest = m ∷ ls }))
-  (linesRead f (r .0) (r .1) (n + 1) (p + length l + 1) (m ∷ ls)))
+    (Ok (record { circuit = r .1; line = n; place = p; next = p + length l + 1; rest = m ∷ ls }))
+    (linesRead f (r .0) (r .1) (n + 1) (p + length l + 1) (m ∷ ls)))
 
 abbrev pub upToEnd : {K I : Type 0} → Format K I → List ℕ → Result (Ended I) Fault
-upToEnd f text = cond (leb (length text) 32768) (linesRead f Opening blank 1 0 (linesFrom text 0)) (Err (fault TextTooLong 0 0))
+upToEnd f text =
+    cond (leb (length text) 32768)
+    (linesRead f Opening blank 1 0 (linesFrom text 0))
+    (Err (fault TextTooLong 0 0))
 
 -- nothing follows END: a further line is declined for its form, its word or its turn
 abbrev pub lineAfter : {K I : Type 0} → Format K I → ℕ → ℕ → List ℕ → Fault

@@ -86,7 +86,7 @@ module _ {K I : Type 0} (f : Format K I) {text : List ℕ} {p : ℕ} {l : List �
       line-done d g o = by-added t e is ∙ ap (λ r. andThen (mapOk (λ d. (t, d)) r) goesOn) (sym g) ∙ if-open t _ _ o
 
       pub end-done : (d : Circuit I) → Ok d ≡ added f c n p e → true ≡ ifClosed t true false
-        → linesRead f s c n p (linesFrom text p) ≡ Ok (record { circuit = d; line = n; place = p; next = q; rest = linesFrom text q })
+          → linesRead f s c n p (linesFrom text p) ≡ Ok (record { circuit = d; line = n; place = p; next = q; rest = linesFrom text q })
       end-done d g o = by-added t e is ∙ ap (λ r. andThen (mapOk (λ d. (t, d)) r) goesOn) (sym g) ∙ if-closed t _ _ o
 
   -- a line after END

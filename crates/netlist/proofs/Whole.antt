@@ -29,7 +29,7 @@ module _ {K I : Type 0} (f : Format K I) where
   Rest l = nothingAfter f (l .line) (l .pos) (linesLeft l)
 
   past-end : (e : Ended I) (found : Option Reason) (r : Result Unit Fault) (c : Circuit I) (l : Lines) → f .AtEnd (e .circuit) found
-    → Ok tt ≡ answered found (e .line) (e .place) → (found ≡ None → Past e c l) → r ≡ Rest l → FromEnd f (Ok e) (okWith r c)
+      → Ok tt ≡ answered found (e .line) (e .place) → (found ≡ None → Past e c l) → r ≡ Rest l → FromEnd f (Ok e) (okWith r c)
   past-end e (Some w) r c l at is past h = err-ok _ _ (sym is)
   past-end e None r c l at is past h =
       let p = past refl in

@@ -7,16 +7,19 @@ ghost use Rattle.text.specs.Outcomes.{okWith};
 ghost use Rattle.files.specs.Reading.{nothingAfter, Reads};
 ghost use Rattle.netlist.specs.Circuits.{circuitOf};
 ghost use Rattle.netlist.specs.Endings.{linesLeft, goesOn, UpTo};
-use reader::body::Body;
 use crate::netlist::Netlist;
 use reader::Reader;
+use reader::body::Body;
 use reader::entries::first_word;
 use text::fault::Fault;
 use text::fault::Reason;
 use text::lines::reading::sized;
 
 // Gathers the records up to END.
-fn read_to_end<'a, B: Body<'a>>(reader: &mut Reader<'a>, netlist: &mut Netlist<B>) -> Result<(), Fault>
+fn read_to_end<'a, B: Body<'a>>(
+    reader: &mut Reader<'a>,
+    netlist: &mut Netlist<B>,
+) -> Result<(), Fault>
     ensures kept { λ r. ⌜ made r (λ _. B·Body .Kept (now (netlist .exit) .body) (circuitOf (B·Body .items) (now (netlist .exit)))) ⌝ }
     ensures gives { λ r. ⌜ UpTo (B·Body .format) (goesOn (B·Body .format) (now (reader .entry)) (circuitOf (B·Body .items) (now (netlist .entry)))) r (circuitOf (B·Body .items) (now (netlist .exit))) (now (reader .exit) .lines) ⌝ }
 {

@@ -41,7 +41,10 @@ fn read_word<'a, B: Body<'a>>(bytes: &[u8]) -> Option<Word<B::Kind>>
 }
 
 // The word of a line, its first field.
-pub fn first_word<'a, B: Body<'a>>(line: &Line<'a>, fields: &mut Fields<'a>) -> Result<Word<B::Kind>, Fault>
+pub fn first_word<'a, B: Body<'a>>(
+    line: &Line<'a>,
+    fields: &mut Fields<'a>,
+) -> Result<Word<B::Kind>, Fault>
     ensures word { λ r. ⌜ r ≡ firstWord (B·Body .format) (now (line .entry) .number) (now (line .entry) .start) (fieldsLeft (now (fields .entry))) ⌝ }
     ensures left { λ r. ⌜ made r (λ _. fieldsLeft (now (fields .exit)) ≡ afterFirst (fieldsLeft (now (fields .entry)))) ⌝ }
 {
@@ -52,7 +55,11 @@ pub fn first_word<'a, B: Body<'a>>(line: &Line<'a>, fields: &mut Fields<'a>) -> 
 }
 
 // The record that the fields after a word make.
-fn entry<'a, B: Body<'a>>(line: &Line<'a>, word: Word<B::Kind>, fields: Fields<'a>) -> Result<Record<'a, B::Record>, Fault>
+fn entry<'a, B: Body<'a>>(
+    line: &Line<'a>,
+    word: Word<B::Kind>,
+    fields: Fields<'a>,
+) -> Result<Record<'a, B::Record>, Fault>
     ensures gives { λ r. ⌜ mapOk (plain (B·Body .shown)) r ≡ entryOf (B·Body .format) (now (line .entry) .number) (now (line .entry) .start) word (fieldsLeft (fields .entry)) ⌝ }
     ensures fits { λ r. ⌜ made r (λ x. Fits (B·Body .format) (plain (B·Body .shown) x)) ⌝ }
 {

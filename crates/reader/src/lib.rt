@@ -27,7 +27,10 @@ impl<'a> Reader<'a> {
         requires { ⌜ length (now text) ≤ 32768 ⌝ }
         ensures { λ r. ⌜ (now (r .lines .text) ≡ now (text .entry)) × (r .lines .pos ≡ 0) × (r .lines .line ≡ 1) × (r .stage ≡ Stage.Opening) ⌝ }
     {
-        Reader { lines: Lines::new(text), stage: Stage::Opening }
+        Reader {
+            lines: Lines::new(text),
+            stage: Stage::Opening,
+        }
     }
 
     pub fn closed(&self) -> bool

@@ -31,8 +31,8 @@ abbrev pub three : ℕ → ℕ → DeviceKind → List Part → Result (DeviceKi
 three n p k fs = andThen (okOr (onlyThree fs) (fault FieldCount n p)) (threeNets n k)
 
 steps : (k : DeviceKind) (x y z : Result NetAt Fault)
-  → andThen {Y = DeviceKind × List NetAt} x (λ a. andThen {Y = DeviceKind × List NetAt} y (λ b. mapOk {Y = DeviceKind × List NetAt} (λ c. (k, a ∷ b ∷ c ∷ [])) z))
-  ≡ mapOk (λ xs. (k, xs)) (andThen x (λ a. mapOk (λ xs. a ∷ xs) (andThen y (λ b. mapOk (λ xs. b ∷ xs) (andThen z (λ c. mapOk (λ xs. c ∷ xs) (Ok [])))))))
+    → andThen {Y = DeviceKind × List NetAt} x (λ a. andThen {Y = DeviceKind × List NetAt} y (λ b. mapOk {Y = DeviceKind × List NetAt} (λ c. (k, a ∷ b ∷ c ∷ [])) z))
+    ≡ mapOk (λ xs. (k, xs)) (andThen x (λ a. mapOk (λ xs. a ∷ xs) (andThen y (λ b. mapOk (λ xs. b ∷ xs) (andThen z (λ c. mapOk (λ xs. c ∷ xs) (Ok [])))))))
 steps k (Err e) y z = refl
 steps k (Ok a) (Err e) z = refl
 steps k (Ok a) (Ok b) (Err e) = refl
@@ -48,12 +48,12 @@ three-counted n p k (a ∷ b ∷ c ∷ d ∷ r) =
 
 -- one net more in the table
 one-more : (x : NetAt) (done : List NetAt) (r : Result (List NetAt) Fault)
-  → mapOk (λ xs. done ++ xs) (mapOk (λ xs. x ∷ xs) r) ≡ mapOk (λ xs. (done ++ x ∷ []) ++ xs) r
+    → mapOk (λ xs. done ++ xs) (mapOk (λ xs. x ∷ xs) r) ≡ mapOk (λ xs. (done ++ x ∷ []) ++ xs) r
 one-more x done (Ok xs) = ap Ok (sym (append-assoc done (x ∷ []) xs))
 one-more x done (Err e) = refl
 
 pub net-done : (n : ℕ) (f : Part) (fs : List Part) (at : List NetAt) (i : ℕ) (x : NetAt) → i < length at → Ok x ≡ netAt n f
-  → mapOk (λ xs. take i at ++ xs) (netsAt n (f ∷ fs)) ≡ mapOk (λ xs. take (i + 1) (set at i x) ++ xs) (netsAt n fs)
+    → mapOk (λ xs. take i at ++ xs) (netsAt n (f ∷ fs)) ≡ mapOk (λ xs. take (i + 1) (set at i x) ++ xs) (netsAt n fs)
 net-done n f fs at i x l e =
     ap (λ r. mapOk (λ xs. take i at ++ xs) (andThen r (λ y. mapOk (λ xs. y ∷ xs) (netsAt n fs)))) (sym e)
     ∙ one-more x (take i at) (netsAt n fs)
@@ -65,7 +65,7 @@ net-declined n f fs done e h = ap (λ r. mapOk (λ xs. done ++ xs) (andThen r (�
 -- a record that is read lists as many nets as its kind takes, each a net number
 
 pub shown-proper : {R K I : Type 0} (f : Format K I) (shown : R → K × List NetAt) (k : K) (n p : ℕ) (fs : List Part) (r : Result R Fault)
-  → mapOk shown r ≡ mapOk (λ xs. (k, xs)) (netsCounted (f .takes k) n p fs) → made r (λ x. Proper f (shown x))
+    → mapOk shown r ≡ mapOk (λ xs. (k, xs)) (netsCounted (f .takes k) n p fs) → made r (λ x. Proper f (shown x))
 shown-proper f shown k n p fs (Err e) h = tt
 shown-proper {K = K} f shown k n p fs (Ok x) h =
     let m = map-ok {Y = K × List NetAt} (λ xs. (k, xs)) (netsCounted (f .takes k) n p fs) (shown x) (sym h) in

@@ -133,9 +133,9 @@ net-spelled v h =
     ⊎-elim
     (λ a. subst P (sym (decimal-digit v a)) (spelled-one v (omega arith)))
     (λ a. ⊎-elim
-        (λ b. subst P (sym (decimal-two v a b)) (spelled-two v a b))
-        (λ b. subst P (sym (decimal-three v b (omega arith))) (spelled-three v b h))
-        (cases-lt v 100))
+    (λ b. subst P (sym (decimal-two v a b)) (spelled-two v a b))
+    (λ b. subst P (sym (decimal-three v b (omega arith))) (spelled-three v b h))
+    (cases-lt v 100))
     (cases-lt v 10)
 
 -- a name is a field in form
@@ -150,9 +150,9 @@ name-graphic : (b : ℕ) → nameByte b ≡ true → graphic b ≡ true
 name-graphic b h =
     ⊎-elim
     (λ a. ⊎-elim
-        (λ u. ⊎-elim (between b 48 57 (omega arith) (omega arith)) (between b 65 90 (omega arith) (omega arith)) (or-cases (digit b) (leb 65 b && leb b 90) u))
-        (between b 97 122 (omega arith) (omega arith))
-        (or-cases (digit b || (leb 65 b && leb b 90)) (leb 97 b && leb b 122) a))
+    (λ u. ⊎-elim (between b 48 57 (omega arith) (omega arith)) (between b 65 90 (omega arith) (omega arith)) (or-cases (digit b) (leb 65 b && leb b 90) u))
+    (between b 97 122 (omega arith) (omega arith))
+    (or-cases (digit b || (leb 65 b && leb b 90)) (leb 97 b && leb b 122) a))
     (λ a. let e = eqb-true b 95 a in and-from _ _ (le-leb 33 b (omega arith)) (le-leb b 126 (omega arith)))
     (or-cases (digit b || (leb 65 b && leb b 90) || (leb 97 b && leb b 122)) (eqb b 95) h)
 

@@ -27,7 +27,11 @@ pub fn device_kind(bytes: &[u8]) -> Option<DeviceKind>
 }
 
 // Three nets: the gate net and the two channel ends.
-pub fn read_device<'a>(line: &Line<'a>, kind: DeviceKind, fields: Fields<'a>) -> Result<DeviceRecord<'a>, Fault>
+pub fn read_device<'a>(
+    line: &Line<'a>,
+    kind: DeviceKind,
+    fields: Fields<'a>,
+) -> Result<DeviceRecord<'a>, Fault>
     ensures { λ r. ⌜ mapOk deviceShown r ≡ mapOk (λ xs. (kind, xs)) (netsCounted (deviceTakes kind) (now (line .entry) .number) (now (line .entry) .start) (fieldsLeft (fields .entry))) ⌝ }
 {
     let Some((gate, left, right)) = fields.three() else {
@@ -36,5 +40,10 @@ pub fn read_device<'a>(line: &Line<'a>, kind: DeviceKind, fields: Fields<'a>) ->
     let gate = read_net(line, gate)?;
     let left = read_net(line, left)?;
     let right = read_net(line, right)?;
-    Ok(DeviceRecord { kind, gate, left, right })
+    Ok(DeviceRecord {
+        kind,
+        gate,
+        left,
+        right,
+    })
 }

@@ -83,5 +83,9 @@ pub fn read_name<'a>(line: &Line<'a>, field: Field<'a>) -> Result<Field<'a>, Fau
     ensures short { λ r. ⌜ made r (λ f. length (now (f .bytes)) ≤ 16) ⌝ }
     ensures gives { λ r. ⌜ mapOk fieldBytes r ≡ nameAt (now (line .entry) .number) (partOf (field .entry)) ⌝ }
 {
-    if is_name(field.bytes) { Ok(field) } else { Err(Fault::new(Reason::BadField, line.number, field.place)) }
+    if is_name(field.bytes) {
+        Ok(field)
+    } else {
+        Err(Fault::new(Reason::BadField, line.number, field.place))
+    }
 }

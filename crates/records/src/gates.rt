@@ -72,13 +72,20 @@ fn read_nets<'a>(line: &Line<'a>, mut fields: Fields<'a>) -> Result<Nets, Fault>
     let mut count = 0;
     while let Some(field) = fields.next() {
         let net = read_net(line, field)?;
-        at[count] = NetAt { place: net.field.place, value: net.value };
+        at[count] = NetAt {
+            place: net.field.place,
+            value: net.value,
+        };
         count += 1;
     }
     Ok(Nets { at, count })
 }
 
-pub fn read_gate<'a>(line: &Line<'a>, kind: GateKind, fields: Fields<'a>) -> Result<GateRecord<'a>, Fault>
+pub fn read_gate<'a>(
+    line: &Line<'a>,
+    kind: GateKind,
+    fields: Fields<'a>,
+) -> Result<GateRecord<'a>, Fault>
     ensures gives { λ r. ⌜ mapOk gateShown r ≡ mapOk (λ xs. (kind, xs)) (netsCounted (gateTakes kind) (now (line .entry) .number) (now (line .entry) .start) (fieldsLeft (fields .entry))) ⌝ }
     ensures few { λ r. ⌜ made r (λ g. g .nets .count ≤ 9) ⌝ }
 {
@@ -86,5 +93,9 @@ pub fn read_gate<'a>(line: &Line<'a>, kind: GateKind, fields: Fields<'a>) -> Res
         return Err(line.fault(Reason::FieldCount));
     }
     let nets = read_nets(line, fields)?;
-    Ok(GateRecord { kind, line: *line, nets })
+    Ok(GateRecord {
+        kind,
+        line: *line,
+        nets,
+    })
 }

@@ -27,8 +27,8 @@ then-more page at bs cs h =
     let parts : overwritten page at bs ≡ front ++ rest = sym (append-assoc (take at page) bs rest) in
     let start : take n (overwritten page at bs) ≡ front = ap (take n) parts ∙ take-at front rest n long in
     let end : drop (n + length cs) (overwritten page at bs) ≡ drop (at + length (bs ++ cs)) page =
-        sym (drop-drop (length cs) n (overwritten page at bs)) ∙ ap (λ l. drop (length cs) (drop n l)) parts ∙ ap (drop (length cs)) (drop-at front rest n long)
-        ∙ drop-drop (length cs) n page ∙ ap (λ m. drop m page) (add-assoc at (length bs) (length cs) ∙ ap (λ m. at + m) (sym (length-append bs cs))) in
+    sym (drop-drop (length cs) n (overwritten page at bs)) ∙ ap (λ l. drop (length cs) (drop n l)) parts ∙ ap (drop (length cs)) (drop-at front rest n long)
+    ∙ drop-drop (length cs) n page ∙ ap (λ m. drop m page) (add-assoc at (length bs) (length cs) ∙ ap (λ m. at + m) (sym (length-append bs cs))) in
     (λ i. start i ++ (cs ++ end i)) ∙ append-assoc (take at page) bs (cs ++ drop (at + length (bs ++ cs)) page) ∙ ap (λ l. take at page ++ l) (sym (append-assoc bs cs (drop (at + length (bs ++ cs)) page)))
 
 pub same-length : (page : List ℕ) (at : ℕ) (bs : List ℕ) → at + length bs ≤ length page → length (overwritten page at bs) ≡ length page

@@ -41,4 +41,4 @@ pub data PairRead (drawn intended : List ℕ) (before : Held) : Result Summary D
   both : (c : Drawn) (g : Intended) → Reads drawnFormat drawn (Ok c) → Reads intendedFormat intended (Ok g) → PairRead drawn intended before (Ok (summed c g)) (record { drawn = Some c; intended = Some g })
   drawn-declined : (f : Fault) → Reads drawnFormat drawn (Err f) → PairRead drawn intended before (Err (record { origin = origins.Drawn; fault = f })) before
   intended-declined : (c : Drawn) (f : Fault) → Reads drawnFormat drawn (Ok c) → Reads intendedFormat intended (Err f)
-    → PairRead drawn intended before (Err (record { origin = origins.Intended; fault = f })) (record { drawn = Some c; intended = before .intended })
+      → PairRead drawn intended before (Err (record { origin = origins.Intended; fault = f })) (record { drawn = Some c; intended = before .intended })

@@ -23,7 +23,11 @@ fn put_digits(page: &mut [u8], at: usize, n: usize) -> usize
     ensures value { λ r. ⌜ r ≡ at + length (decimal n) ⌝ }
     ensures page { λ _. ⌜ now (page .exit) ≡ overwritten (now (page .entry)) at (decimal n) ⌝ }
 {
-    let last = if n < 10 { at } else { put_digits(page, at, n / 10) };
+    let last = if n < 10 {
+        at
+    } else {
+        put_digits(page, at, n / 10)
+    };
     page[last] = b'0' + (n % 10) as u8;
     last + 1
 }

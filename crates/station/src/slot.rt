@@ -4,9 +4,9 @@ ghost use mathlib.Core.Bool.{true};
 ghost use Rattle.std.specs.Vec.{made, refused};
 ghost use Rattle.netlist.specs.Circuits.{circuitOf};
 ghost use Rattle.station.specs.Slots.{holds, nothing, ReadsInto};
-use reader::body::Body;
 use netlist::netlist::Netlist;
 use netlist::reading::read;
+use reader::body::Body;
 use text::fault::Fault;
 
 #[derive(Drop)]
@@ -17,6 +17,17 @@ pub struct Slot<B> {
 }
 
 impl<'a, B: Body<'a>> Slot<B> {
+    // Nothing is held, and the two circuits are the room for what will be.
+    pub(crate) fn empty(current: Netlist<B>, spare: Netlist<B>) -> Slot<B>
+        ensures { λ r. ⌜ holds (B·Body .items) r ≡ nothing ⌝ }
+    {
+        Slot {
+            held: false,
+            current,
+            spare,
+        }
+    }
+
     // Reads a text into the spare circuit, which is held from then on; the number of its IN. A decline changes nothing held.
     pub(crate) fn read(&mut self, text: &'a [u8]) -> Result<usize, Fault>
         ensures gives { λ r. ⌜ ReadsInto (B·Body .format) (now (text .entry)) (holds (B·Body .items) (now (self .entry))) r (holds (B·Body .items) (now (self .exit))) ⌝ }

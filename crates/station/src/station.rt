@@ -44,10 +44,10 @@ impl Station {
     {
         let current = Netlist::new(heap, Devices::new(heap)?)?;
         let spare = Netlist::new(heap, Devices::new(heap)?)?;
-        let drawn = Slot { held: false, current, spare };
+        let drawn = Slot::empty(current, spare);
         let current = Netlist::new(heap, Gates::new(heap)?)?;
         let spare = Netlist::new(heap, Gates::new(heap)?)?;
-        let intended = Slot { held: false, current, spare };
+        let intended = Slot::empty(current, spare);
         Ok(Station { drawn, intended })
     }
 
@@ -90,7 +90,12 @@ impl Station {
         let outs = self.drawn.current.outs().len();
         let devices = self.drawn.current.body.count();
         let gates = self.intended.current.body.count();
-        Summary { ins, outs, devices, gates }
+        Summary {
+            ins,
+            outs,
+            devices,
+            gates,
+        }
     }
 
     // Reads both texts, the drawn one first; the first decline is the answer.
@@ -98,9 +103,15 @@ impl Station {
         ensures { λ r. ⌜ PairRead (now (drawn .entry)) (now (intended .entry)) (held (now (self .entry))) r (held (now (self .exit))) ⌝ }
     {
         match self.read_drawn(drawn) {
-            Err(fault) => Err(Decline { origin: Origin::Drawn, fault }),
+            Err(fault) => Err(Decline {
+                origin: Origin::Drawn,
+                fault,
+            }),
             Ok(_) => match self.read_intended(intended) {
-                Err(fault) => Err(Decline { origin: Origin::Intended, fault }),
+                Err(fault) => Err(Decline {
+                    origin: Origin::Intended,
+                    fault,
+                }),
                 Ok(_) => Ok(self.summary()),
             },
         }

@@ -22,9 +22,9 @@ join-next : (d : ℕ) (bs : List ℕ) → rejoined d ([] ∷ split d bs) ≡ d �
 join-next d [] = refl
 join-next d (b ∷ bs) = elim (eqb b d) as (λ t. rejoined d ([] ∷ cond t ([] ∷ split d bs) (onto b (split d bs))) ≡ d ∷ rejoined d (cond t ([] ∷ split d bs) (onto b (split d bs)))) [ true ↦ refl | false ↦ onto-next (split d bs) ]
   where
-  onto-next : (q : List (List ℕ)) → rejoined d ([] ∷ onto b q) ≡ d ∷ rejoined d (onto b q)
-  onto-next [] = refl
-  onto-next (p ∷ q) = refl
+    onto-next : (q : List (List ℕ)) → rejoined d ([] ∷ onto b q) ≡ d ∷ rejoined d (onto b q)
+    onto-next [] = refl
+    onto-next (p ∷ q) = refl
 
 join-cond : (t : Bool) (d b : ℕ) (bs : List ℕ) → (t ≡ true → b ≡ d) → rejoined d (split d bs) ≡ bs → rejoined d (cond t ([] ∷ split d bs) (onto b (split d bs))) ≡ b ∷ bs
 join-cond true d b bs e h = join-next d bs ∙ (λ i. sym (e refl) i ∷ h i)

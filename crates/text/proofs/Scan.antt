@@ -37,8 +37,8 @@ scan-opened true [] = refl
 scan-opened false [] = refl
 scan-opened e (b ∷ bs) =
     elim (eqb b 9) as (λ t. cond t (cond e false (scan true bs)) (cond (graphic b) (scan false bs) false) ≡ opened e (cond t ([] ∷ split 9 bs) (onto b (split 9 bs)))) [
-      true ↦ elim e as (λ v. cond v false (scan true bs) ≡ (cond v false true && allOf fieldFormed (split 9 bs))) [ true ↦ refl | false ↦ scan-opened true bs ∙ sym (anew (split 9 bs)) ]
-    | false ↦ ap (λ x. cond (graphic b) x false) (scan-opened false bs) ∙ more e b (split 9 bs)
+      | true ↦ elim e as (λ v. cond v false (scan true bs) ≡ (cond v false true && allOf fieldFormed (split 9 bs))) [ true ↦ refl | false ↦ scan-opened true bs ∙ sym (anew (split 9 bs)) ]
+      | false ↦ ap (λ x. cond (graphic b) x false) (scan-opened false bs) ∙ more e b (split 9 bs)
     ]
 
 pub scan-formed : (bs : List ℕ) → formed bs ≡ scan true bs

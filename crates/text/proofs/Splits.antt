@@ -21,18 +21,18 @@ pub split-found : (d : ℕ) (bs : List ℕ) → first d bs < length bs → split
 split-found d [] = λ h. absurd (omega arith)
 split-found d (b ∷ bs) =
     elim (eqb b d) as (λ t. cond t 0 (suc (first d bs)) < suc (length bs) → cond t ([] ∷ split d bs) (onto b (split d bs)) ≡ take (cond t 0 (suc (first d bs))) (b ∷ bs) ∷ split d (drop (cond t 0 (suc (first d bs)) + 1) (b ∷ bs))) [
-      true ↦ λ h. refl
-    | false ↦ λ h.
-        let e : suc (first d bs) + 1 ≡ suc (first d bs + 1) = omega arith in
-        ap (onto b) (split-found d bs (omega arith)) ∙ ap (λ n. (b ∷ take (first d bs) bs) ∷ split d (drop n (b ∷ bs))) (sym e)
+      | true ↦ λ h. refl
+      | false ↦ λ h.
+          let e : suc (first d bs) + 1 ≡ suc (first d bs + 1) = omega arith in
+          ap (onto b) (split-found d bs (omega arith)) ∙ ap (λ n. (b ∷ take (first d bs) bs) ∷ split d (drop n (b ∷ bs))) (sym e)
     ]
 
 pub split-none : (d : ℕ) (bs : List ℕ) → length bs ≤ first d bs → split d bs ≡ bs ∷ []
 split-none d [] = λ h. refl
 split-none d (b ∷ bs) =
     elim (eqb b d) as (λ t. suc (length bs) ≤ cond t 0 (suc (first d bs)) → cond t ([] ∷ split d bs) (onto b (split d bs)) ≡ (b ∷ bs) ∷ []) [
-      true ↦ λ h. absurd (omega arith)
-    | false ↦ λ h. ap (onto b) (split-none d bs (omega arith))
+      | true ↦ λ h. absurd (omega arith)
+      | false ↦ λ h. ap (onto b) (split-none d bs (omega arith))
     ]
 
 -- at most one part more than bytes

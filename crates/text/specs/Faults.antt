@@ -7,8 +7,25 @@ use Rattle.text.specs.declared.fault.Layer.{Layer}
 use Rattle.text.specs.declared.fault.Layer.the-variants.{Text, Record, Circuit, Call}
 use Rattle.text.specs.declared.fault.Reason.{Reason}
 use Rattle.text.specs.declared.fault.Reason.the-variants.{
-  TextTooLong, MalformedLine, UnknownWord, OutOfTurn, FieldCount, BadField, TooManyRecords, NetNotAllowed, OutputWithoutGate, WaitingRing,
-  LargeComponent, CircuitAbsent, PortsDiffer, AlgebraUnfit, AlgebraDeclined, OutOfRange, WorkTableShort, NoSuchAlgebra, PageShort
+  TextTooLong,
+  MalformedLine,
+  UnknownWord,
+  OutOfTurn,
+  FieldCount,
+  BadField,
+  TooManyRecords,
+  NetNotAllowed,
+  OutputWithoutGate,
+  WaitingRing,
+  LargeComponent,
+  CircuitAbsent,
+  PortsDiffer,
+  AlgebraUnfit,
+  AlgebraDeclined,
+  OutOfRange,
+  WorkTableShort,
+  NoSuchAlgebra,
+  PageShort,
 }
 
 abbrev pub numberOf : Reason → ℕ

@@ -88,4 +88,4 @@ abbrev pub NextLine : List ℕ → ℕ → ℕ → Result (Option Line) Fault �
 NextLine text p n (Err f) q m = (f ≡ fault MalformedLine n p) × Malformed (linesFrom text p)
 NextLine text p n (Ok None) q m = (linesFrom text p ≡ [] ∷ []) × (q ≡ p) × (m ≡ n)
 NextLine text p n (Ok (Some l)) q m = (l .number ≡ n) × (l .start ≡ p) × (q ≡ p + length (l .bytes .now) + 1) × (q ≤ length text) × (m ≡ n + 1)
-  × (linesFrom text p ≡ l .bytes .now ∷ linesFrom text q) × (formed (l .bytes .now) ≡ true)
+    × (linesFrom text p ≡ l .bytes .now ∷ linesFrom text q) × (formed (l .bytes .now) ≡ true)

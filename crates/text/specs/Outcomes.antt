@@ -1,6 +1,11 @@
 -- Steps that may decline, one after another. Assumes nothing.
+use mathlib.Core.Bool.{Bool, cond}
 use Rattle.std.specs.declared.result.Result.{Result}
 use Rattle.std.specs.declared.result.Result.the-variants.{Ok, Err}
+
+-- a decline where the test holds, else the next step
+abbrev pub declineIf : {X E : Type 0} → Bool → E → Result X E → Result X E
+declineIf b e next = cond b (Err e) next
 
 -- the first decline, or the next step
 abbrev pub andThen : {X Y E : Type 0} → Result X E → (X → Result Y E) → Result Y E

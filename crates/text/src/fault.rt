@@ -46,7 +46,8 @@ impl Reason {
     {
         match self {
             Reason::TextTooLong | Reason::MalformedLine => Layer::Text,
-            Reason::UnknownWord | Reason::OutOfTurn | Reason::FieldCount | Reason::BadField => Layer::Record,
+            Reason::UnknownWord | Reason::OutOfTurn | Reason::FieldCount | Reason::BadField =>
+                Layer::Record,
             Reason::TooManyRecords
             | Reason::NetNotAllowed
             | Reason::OutputWithoutGate
@@ -70,6 +71,11 @@ impl Fault {
     pub fn new(reason: Reason, line: usize, place: usize) -> Fault
         ensures { λ r. ⌜ r ≡ fault reason line place ⌝ }
     {
-        Fault { reason, line, place, layer: reason.layer() }
+        Fault {
+            reason,
+            line,
+            place,
+            layer: reason.layer(),
+        }
     }
 }

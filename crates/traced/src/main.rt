@@ -17,11 +17,13 @@ fn add_plain(bytes: &mut Vec<u8>, text: &str) -> Result<(), AnyError> {
             rest = after;
         }
         for b in rest.bytes() {
-            bytes.push(match b {
-                b' ' => b'\t',
-                b'/' => b'\n',
-                _ => b,
-            })?;
+            bytes.push(
+                match b {
+                    b' ' => b'\t',
+                    b'/' => b'\n',
+                    _ => b,
+                },
+            )?;
         }
     }
     Ok(())

@@ -11,9 +11,9 @@ ghost use Rattle.circuits.specs.Bodies.{devicesOf, Ordered, reasonFor};
 use super::Devices;
 use cell::Device;
 use cell::DeviceKind;
-use reader::body::Body;
 use order::Obstacle;
 use order::order::Order;
+use reader::body::Body;
 use records::DeviceRecord;
 use records::devices::device_kind;
 use records::devices::read_device;
@@ -51,6 +51,7 @@ impl Devices {
 
 pub impl<'a> Body<'a> for Devices as DeviceBody {
     type Kind = DeviceKind;
+
     type Record = DeviceRecord<'a>;
 
     ghost Item = { Device };
@@ -69,7 +70,11 @@ pub impl<'a> Body<'a> for Devices as DeviceBody {
         device_kind(bytes)
     }
 
-    fn read(line: &Line<'a>, kind: DeviceKind, fields: Fields<'a>) -> Result<DeviceRecord<'a>, Fault> {
+    fn read(
+        line: &Line<'a>,
+        kind: DeviceKind,
+        fields: Fields<'a>,
+    ) -> Result<DeviceRecord<'a>, Fault> {
         read_device(line, kind, fields)
     }
 
@@ -88,7 +93,12 @@ pub impl<'a> Body<'a> for Devices as DeviceBody {
         let gate = item.gate.value;
         let left = item.left.value;
         let right = item.right.value;
-        self.devices.push_reserved(Device { kind, gate, left, right });
+        self.devices.push_reserved(Device {
+            kind,
+            gate,
+            left,
+            right,
+        });
         Ok(())
     }
 

@@ -13,8 +13,8 @@ ghost use Rattle.circuits.specs.Bodies.{gateHeld, gatesOf};
 use super::Gates;
 use super::LogicGate;
 use cell::GateKind;
-use reader::body::Body;
 use netlist::netlist::gather::listed;
+use reader::body::Body;
 use records::GateRecord;
 use records::NetAt;
 use records::gates::gate_kind;
@@ -37,7 +37,12 @@ fn gate_of(kind: GateKind, nets: &[NetAt]) -> LogicGate
     for i in 0..count {
         inputs[i] = nets[i].value;
     }
-    LogicGate { kind, inputs, count, output: nets[count].value }
+    LogicGate {
+        kind,
+        inputs,
+        count,
+        output: nets[count].value,
+    }
 }
 
 impl Gates {
@@ -90,6 +95,7 @@ impl Gates {
 
 pub impl<'a> Body<'a> for Gates as GateBody {
     type Kind = GateKind;
+
     type Record = GateRecord<'a>;
 
     ghost Item = { Gate };

@@ -29,13 +29,19 @@ pub fn listed(nets: &[u8], net: u8) -> bool
 impl<'a, B: Body<'a>> Netlist<B> {
     // A netlist without ports, around a body.
     pub fn new(heap: Global, body: B) -> Result<Netlist<B>, AllocError>
-        where B: Drop
+    where
+        B: Drop,
         ensures { λ r. ⌜ made r (λ c. circuitOf (B·Body .items) c ≡ record { name = []; ins = []; outs = []; body = B·Body .items body }) ⌝ }
     {
         let name = Vec::with_capacity(heap, 16)?;
         let ins = Vec::with_capacity(heap, 16)?;
         let outs = Vec::with_capacity(heap, 16)?;
-        Ok(Netlist { name, ins, outs, body })
+        Ok(Netlist {
+            name,
+            ins,
+            outs,
+            body,
+        })
     }
 
     pub fn ins(&self) -> &[u8]

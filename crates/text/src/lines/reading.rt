@@ -63,7 +63,10 @@ impl<'a> Line<'a> {
         requires { ⌜ now self .start + length (now (now self .bytes)) ≤ 32768 ⌝ }
         ensures { λ r. ⌜ fieldsLeft r ≡ fieldsOf (now (self .entry) .start) (now (now (self .entry) .bytes)) ⌝ }
     {
-        Fields { rest: Some(self.bytes), place: self.start }
+        Fields {
+            rest: Some(self.bytes),
+            place: self.start,
+        }
     }
 
     // A decline at the line's start.
@@ -81,9 +84,15 @@ impl<'a> Fields<'a> {
         let rest = self.rest?;
         let place = self.place;
         let n = until(rest, b'\t');
-        let field = Field { bytes: &rest[0..n], place };
+        let field = Field {
+            bytes: &rest[0..n],
+            place,
+        };
         if n < rest.len() {
-            *self = Fields { rest: Some(&rest[n + 1..]), place: place + n + 1 };
+            *self = Fields {
+                rest: Some(&rest[n + 1..]),
+                place: place + n + 1,
+            };
         } else {
             *self = Fields { rest: None, place };
         }
@@ -111,7 +120,8 @@ impl<'a> Fields<'a> {
     pub fn three(mut self) -> Option<(Field<'a>, Field<'a>, Field<'a>)>
         ensures { λ r. ⌜ mapped threeParts r ≡ onlyThree (fieldsLeft (self .entry)) ⌝ }
     {
-        let (Some(a), Some(b), Some(c), None) = (self.next(), self.next(), self.next(), self.next()) else {
+        let (Some(a), Some(b), Some(c), None) = (self.next(), self.next(), self.next(), self.next())
+        else {
             return None;
         };
         Some((a, b, c))
@@ -144,7 +154,11 @@ impl<'a> Lines<'a> {
         requires { ⌜ length (now text) ≤ 32768 ⌝ }
         ensures { λ r. ⌜ (now (r .text) ≡ now (text .entry)) × (r .pos ≡ 0) × (r .line ≡ 1) ⌝ }
     {
-        Lines { text, pos: 0, line: 1 }
+        Lines {
+            text,
+            pos: 0,
+            line: 1,
+        }
     }
 
     // The next line, without its line feed; none where the text ends.
@@ -164,7 +178,15 @@ impl<'a> Lines<'a> {
         if n == rest.len() || !formed(bytes) {
             return Err(Fault::new(Reason::MalformedLine, number, start));
         }
-        *self = Lines { text, pos: start + n + 1, line: number + 1 };
-        Ok(Some(Line { bytes, number, start }))
+        *self = Lines {
+            text,
+            pos: start + n + 1,
+            line: number + 1,
+        };
+        Ok(Some(Line {
+            bytes,
+            number,
+            start,
+        }))
     }
 }

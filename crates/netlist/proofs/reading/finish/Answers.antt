@@ -28,7 +28,7 @@ module _ (g : Over) (c : In-Some g) where
 
   -- what the first word was looked for in
   asked : firstWord (g .B·Body .format) (c .in-Some .line .number) (c .in-Some .line .start) (fieldsOf (c .in-Some .line .start) (c .in-Some .line .bytes .now))
-    ≡ firstWord (g .B·Body .format) (before .line) (before .pos) (fieldsOf (before .pos) (c .in-Some .line .bytes .now))
+      ≡ firstWord (g .B·Body .format) (before .line) (before .pos) (fieldsOf (before .pos) (c .in-Some .line .bytes .now))
   asked = λ i. firstWord (g .B·Body .format) (given .0 i) (given .1 i) (fieldsOf (given .1 i) (c .in-Some .line .bytes .now))
 
 pub returns-in-Break-first-word : need.returns-in-Break-first-word
@@ -37,7 +37,7 @@ returns-in-Break-first-word g c =
     let line = c .in-Some .line in
     let p = err-from-errBy (c .from-residual-in-Break-first-word .result) (c .from-residual-in-Break-first-word .ensures .1) in
     p .1 ∙ sym (word-unknown (g .B·Body .format) (took g w) (before g w .line) (p .0)
-        (ap Err (p .2) ∙ c .in-Break-first-word .ensures tt .word ∙ ap (firstWord (g .B·Body .format) (line .number) (line .start)) (c .fields-fields .ensures) ∙ asked g w))
+    (ap Err (p .2) ∙ c .in-Break-first-word .ensures tt .word ∙ ap (firstWord (g .B·Body .format) (line .number) (line .start)) (c .fields-fields .ensures) ∙ asked g w))
 
 pub returns : need.returns
 returns g c =
@@ -46,4 +46,4 @@ returns g c =
     let h = given g w in
     ap Err (c .fault .ensures ∙ (λ i. fault OutOfTurn (h .0 i) (h .1 i)))
     ∙ sym (word-late (g .B·Body .format) (took g w) (before g w .line) (c .in-Continue-first-word .field-0)
-        (c .in-Continue-first-word .ensures tt .word ∙ ap (firstWord (g .B·Body .format) (line .number) (line .start)) (c .fields-fields .ensures) ∙ asked g w))
+    (c .in-Continue-first-word .ensures tt .word ∙ ap (firstWord (g .B·Body .format) (line .number) (line .start)) (c .fields-fields .ensures) ∙ asked g w))

@@ -33,7 +33,7 @@ module _ (g : Over) (c : In-Some g) where
 
   -- what the record layer was asked
   asked : recordOf (g .B·Body .format) (c .loop-line .reader .stage) (c .in-Some .line .number) (c .in-Some .line .start) (fieldsOf (c .in-Some .line .start) (c .in-Some .line .bytes .now))
-    ≡ recordOf (g .B·Body .format) (c .loop-line .reader .stage) (before .line) (before .pos) (fieldsOf (before .pos) (c .in-Some .line .bytes .now))
+      ≡ recordOf (g .B·Body .format) (c .loop-line .reader .stage) (before .line) (before .pos) (fieldsOf (before .pos) (c .in-Some .line .bytes .now))
   asked = λ i. recordOf (g .B·Body .format) (c .loop-line .reader .stage) (given .0 i) (given .1 i) (fieldsOf (given .1 i) (c .in-Some .line .bytes .now))
 
   -- what is left of the text after it
@@ -49,8 +49,8 @@ returns-in-Break-item g c =
     record {
       kept = none-made (c .from-residual-in-Break-item .result) (p .0) _ (p .1);
       gives = subst (λ q. UpTo f q (c .from-residual-in-Break-item .result) so-far (c .record .last .self .lines))
-        (sym (sym (c .loop-line .inv) ∙ record-declined f (took g w) (before g w .line) (c .loop-line .reader .stage) so-far (p .0) (ap Err (p .2) ∙ c .in-Break-item .ensures tt .gives ∙ asked g w)))
-        (p .1);
+          (sym (sym (c .loop-line .inv) ∙ record-declined f (took g w) (before g w .line) (c .loop-line .reader .stage) so-far (p .0) (ap Err (p .2) ∙ c .in-Break-item .ensures tt .gives ∙ asked g w)))
+          (p .1);
     }
 
 pub returns-in-Break-add : need.returns-in-Break-add
@@ -64,9 +64,9 @@ returns-in-Break-add g c =
     record {
       kept = none-made (c .from-residual-in-Break-add .result) (p .0) _ (p .1);
       gives = subst (λ q. UpTo f q (c .from-residual-in-Break-add .result) (circuitOf (g .B·Body .items) (c .add .last .self)) (c .record .last .self .lines))
-        (sym (sym (c .loop-line .inv) ∙ add-declined f (took g w) (before g w .line) (c .loop-line .reader .stage) so-far (c .record .last .self .stage) e
-            (c .in-Continue-item .ensures tt .gives ∙ asked g w) (p .0) (ap Err (p .2) ∙ c .in-Break-add .ensures tt ∙ (λ i. added f so-far (h .0 i) (h .1 i) e))))
-        (p .1);
+          (sym (sym (c .loop-line .inv) ∙ add-declined f (took g w) (before g w .line) (c .loop-line .reader .stage) so-far (c .record .last .self .stage) e
+          (c .in-Continue-item .ensures tt .gives ∙ asked g w) (p .0) (ap Err (p .2) ∙ c .in-Break-add .ensures tt ∙ (λ i. added f so-far (h .0 i) (h .1 i) e))))
+          (p .1);
     }
 
 pub returns-then-closed : need.returns-then-closed
@@ -82,14 +82,18 @@ returns-then-closed g c =
     record {
       kept = subst (λ x. made (c .close .result) (λ _. g .B·Body .Kept (c .close .last .self .body) x)) (sym (c .close .ensures .same)) (c .close .ensures .kept);
       gives = subst (λ q. UpTo f q (c .close .result) (circuitOf (g .B·Body .items) (c .close .last .self)) (c .record .last .self .lines))
-        (sym (sym (c .loop-line .inv) ∙ end-done f (took g w) (before g w .line) (c .loop-line .reader .stage) so-far (c .record .last .self .stage) e
-            (c .in-Continue-item .ensures tt .gives ∙ asked g w) d (c .in-Continue-add .ensures tt ∙ (λ i. added f so-far (h .0 i) (h .1 i) e)) (c .if-closed .ensures tt)))
-        (closes .0, closes .1, closes .2 ∙ (λ i. answered (closes .0) (h .0 i) (h .1 i)), λ none. record {
-          circuit = c .close .ensures .same;
-          line = ap (λ (l : Lines). l .line) same ∙ h .4;
-          next = ap (λ (l : Lines). l .pos) same;
-          rest = ap linesLeft same ∙ left g w;
-        });
+          (sym (sym (c .loop-line .inv) ∙ end-done f (took g w) (before g w .line) (c .loop-line .reader .stage) so-far (c .record .last .self .stage) e
+          (c .in-Continue-item .ensures tt .gives ∙ asked g w) d (c .in-Continue-add .ensures tt ∙ (λ i. added f so-far (h .0 i) (h .1 i) e)) (c .if-closed .ensures tt))) (
+            closes .0,
+            closes .1,
+            closes .2 ∙ (λ i. answered (closes .0) (h .0 i) (h .1 i)),
+            λ none. record {
+              circuit = c .close .ensures .same;
+              line = ap (λ (l : Lines). l .line) same ∙ h .4;
+              next = ap (λ (l : Lines). l .pos) same;
+              rest = ap linesLeft same ∙ left g w;
+            },
+          );
     }
 
 pub loop-line-again : need.loop-line-again
@@ -106,5 +110,5 @@ loop-line-again g c =
     ap (λ (l : Lines). linesRead f t d (l .line) (l .pos) (linesLeft l)) same
     ∙ (λ i. linesRead f t d (h .4 i) (past g w .pos) (left g w i))
     ∙ sym (line-done f (took g w) (before g w .line) s so-far t e
-        (c .in-Continue-item .ensures tt .gives ∙ asked g w) d (c .in-Continue-add .ensures tt ∙ (λ i. added f so-far (h .0 i) (h .1 i) e)) (c .if-closed .ensures tt))
+    (c .in-Continue-item .ensures tt .gives ∙ asked g w) d (c .in-Continue-add .ensures tt ∙ (λ i. added f so-far (h .0 i) (h .1 i) e)) (c .if-closed .ensures tt))
     ∙ c .loop-line .inv

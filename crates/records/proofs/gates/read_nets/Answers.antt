@@ -20,8 +20,7 @@ loop-field-again c =
     let left = fieldsLeft (c .next .last .self) in
     let x : NetAt = netShown (c .in-Continue-net .net) in
     let here = c .in-Some .ensures tt in
-    let room : i < length at = omega (arith, c .loop-field .inv .1, c .loop-field .inv .2, ap length here) in
-    (
+    let room : i < length at = omega (arith, c .loop-field .inv .1, c .loop-field .inv .2, ap length here) in (
       sym (net-done n (partOf (c .in-Some .field)) left at i x room (c .in-Continue-net .ensures tt)) ∙ ap (λ fs. mapOk (λ xs. take i at ++ xs) (netsAt n fs)) (sym here) ∙ c .loop-field .inv .0,
       omega (arith, c .loop-field .inv .1, ap length here),
       length-set at i x ∙ c .loop-field .inv .2,

@@ -25,17 +25,17 @@ before t c =
     let at = c .args .at in
     let n = c .args .n in
     elim (c .if-n-lt10 .came) [
-      then-n-lt10 w ↦
-        let one = one-digit n (w .if-n-lt10 .taken) in
-        record { digits = []; all = sym one; written = none-yet page at (c .if-n-lt10 .page) (c .if-n-lt10 .last) (w .page-is) (w .last-is); room = omega (arith, c .pre, ap length one) }
-    | else-n-lt10 w ↦
-        let many = w .if-n-lt10 .left in
-        record {
-          digits = decimal (n / 10);
-          all = sym (decimal-step n many (omega arith));
-          written = record { page-is = w .page-is ∙ w .put-digits-last .ensures .page; last-is = w .last-is ∙ w .put-digits-last .ensures .value };
-          room = omega (arith, c .pre, more-digits n many (omega arith));
-        }
+      | then-n-lt10 w ↦
+          let one = one-digit n (w .if-n-lt10 .taken) in
+          record { digits = []; all = sym one; written = none-yet page at (c .if-n-lt10 .page) (c .if-n-lt10 .last) (w .page-is) (w .last-is); room = omega (arith, c .pre, ap length one) }
+      | else-n-lt10 w ↦
+          let many = w .if-n-lt10 .left in
+          record {
+            digits = decimal (n / 10);
+            all = sym (decimal-step n many (omega arith));
+            written = record { page-is = w .page-is ∙ w .put-digits-last .ensures .page; last-is = w .last-is ∙ w .put-digits-last .ensures .value };
+            room = omega (arith, c .pre, more-digits n many (omega arith));
+          }
     ]
 
 done : (t : ℕ) (c : Joined-n-lt10 t) → Written (c .args .page .now) (c .args .at) (decimal (c .args .n)) (set (c .if-n-lt10 .page) (c .if-n-lt10 .last) (48 + c .args .n % 10)) (c .if-n-lt10 .last + 1)

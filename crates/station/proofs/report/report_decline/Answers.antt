@@ -38,7 +38,7 @@ put-number-requires c κs =
 
 -- the four writings are the line
 whole : (o : Origin) (a b d : List ℕ) → ((([] ++ lead o) ++ (a ++ 9 ∷ [])) ++ (b ++ 9 ∷ [])) ++ (d ++ 10 ∷ [])
-  ≡ (codes "DECLINED" ++ (9 ∷ (originWord o ++ (9 ∷ (a ++ (9 ∷ (b ++ (9 ∷ d)))))))) ++ 10 ∷ []
+    ≡ (codes "DECLINED" ++ (9 ∷ (originWord o ++ (9 ∷ (a ++ (9 ∷ (b ++ (9 ∷ d)))))))) ++ 10 ∷ []
 whole o a b d = simp append-assoc
 
 pub returns : need.returns

@@ -13,8 +13,8 @@ returns g c =
     let line = c .args .line .now in
     record {
       found = subst (λ (ports : List ℕ × List ℕ). Closes (g .B·Body .format) (record { name = vec-items (self .name); ins = ports .0; outs = ports .1; body = g .B·Body .items (self .body) }) (line .number) (line .start) (c .close .result))
-        (λ i. (c .deref .ensures .value i, c .deref-2 .ensures .value i)) (c .close .ensures .found (vec-items (self .name)));
+          (λ i. (c .deref .ensures .value i, c .deref-2 .ensures .value i)) (c .close .ensures .found (vec-items (self .name)));
       kept = subst (λ (ports : List ℕ × List ℕ). made (c .close .result) (λ _. g .B·Body .Kept (c .close .last .self) (record { name = vec-items (self .name); ins = ports .0; outs = ports .1; body = g .B·Body .items (self .body) })))
-        (λ i. (c .deref .ensures .value i, c .deref-2 .ensures .value i)) (c .close .ensures .kept (vec-items (self .name)));
+          (λ i. (c .deref .ensures .value i, c .deref-2 .ensures .value i)) (c .close .ensures .kept (vec-items (self .name)));
       same = search needs;
     }

@@ -17,6 +17,6 @@ returns c =
     let part : Part = record { place = place; bytes = take (n - 0) rest } in
     ap (λ r. partsFrom r place) (c .in-Continue-rest .was tt) ∙
     elim (c .if-n-rest .came) [
-      then-n-rest w ↦ field-cut place n rest _ _ (cut-at 9 rest n (c .until-n .ensures .value) (w .if-n-rest .taken)) (take-rest rest (n + 1)) ∙ ap (λ f. part ∷ fieldsLeft f) (sym (w .self-is))
-    | else-n-rest w ↦ field-last place n rest (c .until-n .ensures .value) (w .if-n-rest .left) (c .until-n .ensures .bound) ∙ ap (λ f. part ∷ fieldsLeft f) (sym (w .self-is))
+      | then-n-rest w ↦ field-cut place n rest _ _ (cut-at 9 rest n (c .until-n .ensures .value) (w .if-n-rest .taken)) (take-rest rest (n + 1)) ∙ ap (λ f. part ∷ fieldsLeft f) (sym (w .self-is))
+      | else-n-rest w ↦ field-last place n rest (c .until-n .ensures .value) (w .if-n-rest .left) (c .until-n .ensures .bound) ∙ ap (λ f. part ∷ fieldsLeft f) (sym (w .self-is))
     ]

@@ -20,12 +20,15 @@ returns-then-n-rest c =
     let is : rest ≡ drop p text = take-rest text p in
     let long = ap length is ∙ length-drop p text in
     record {
-      gives = (c .new .ensures, elim (c .then-n-rest .came) [
-          then-n-rest·by·then-n-rest w ↦ malformed-last text rest p (line-last text rest p n is (c .until-n .ensures .value) (w .if-n-rest .taken)) (omega (arith, long))
-        | then-n-rest·by·else-n-rest·then-not-formed w ↦
-            let some : n < length rest = omega (arith, c .until-n .ensures .bound, w .if-n-rest .left) in
-            malformed-line text _ p _ (line-cut text rest _ p n is (cut-at 10 rest n (c .until-n .ensures .value) some)) (sym (w .if-not-formed .ensures tt))
-        ]);
+      gives = (
+        c .new .ensures,
+        elim (c .then-n-rest .came) [
+          | then-n-rest·by·then-n-rest w ↦ malformed-last text rest p (line-last text rest p n is (c .until-n .ensures .value) (w .if-n-rest .taken)) (omega (arith, long))
+          | then-n-rest·by·else-n-rest·then-not-formed w ↦
+              let some : n < length rest = omega (arith, c .until-n .ensures .bound, w .if-n-rest .left) in
+              malformed-line text _ p _ (line-cut text rest _ p n is (cut-at 10 rest n (c .until-n .ensures .value) some)) (sym (w .if-not-formed .ensures tt))
+        ],
+      );
       same = refl;
     }
 

@@ -35,8 +35,8 @@ other-next e f s i l h g off = other e s i l h ∙ cond-true (graphic (getD s i 
 pub loop-b-again : need.loop-b-again
 loop-b-again c =
     elim (c .if-b-eq9 .came) [
-      then-b-eq9·else-empty w ↦ c .loop-b .inv ∙ tab-next _ _ (c .args .bytes .now) (c .loop-b .b-index) (c .loop-b-test .taken) (w .if-b-eq9 .taken) (w .if-empty .left) (w .empty-is)
-    | else-b-eq9·then-graphic w ↦ c .loop-b .inv ∙ other-next (c .loop-b .empty) _ (c .args .bytes .now) (c .loop-b .b-index) (c .loop-b-test .taken) (w .if-b-eq9 .left) (w .if-graphic .ensures tt) (w .empty-is)
+      | then-b-eq9·else-empty w ↦ c .loop-b .inv ∙ tab-next _ _ (c .args .bytes .now) (c .loop-b .b-index) (c .loop-b-test .taken) (w .if-b-eq9 .taken) (w .if-empty .left) (w .empty-is)
+      | else-b-eq9·then-graphic w ↦ c .loop-b .inv ∙ other-next (c .loop-b .empty) _ (c .args .bytes .now) (c .loop-b .b-index) (c .loop-b-test .taken) (w .if-b-eq9 .left) (w .if-graphic .ensures tt) (w .empty-is)
     ]
 
 pub returns : need.returns

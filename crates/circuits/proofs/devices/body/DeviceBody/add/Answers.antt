@@ -12,8 +12,7 @@ pub ghost-self : need.ghost-self
 ghost-self c =
     let item = c .args .item .now in
     let d : Device = record { kind = item .kind; gate = item .gate .value; left = item .left .value; right = item .right .value } in
-    let b = c .args .self .now in
-    (
+    let b = c .args .self .now in (
       omega (arith, c .push-reserved .ensures .capacity, b .room),
       (subst (λ ds. allOf onNets ds ≡ true) (sym (c .push-reserved .ensures .items)) (one-more onNets (vec-items (b .devices)) d (b .numbered) (on-nets d (c .pre .numbers))), tt),
     )

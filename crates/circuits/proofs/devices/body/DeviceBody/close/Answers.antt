@@ -22,7 +22,7 @@ find-requires c κs = subst (Every (λ d. Numbered (deviceNets d))) (sym (c .der
 
 -- what was found of the devices that are held
 of-held : (ins outs name : List ℕ) (given held : List Device) (order : List (List ℕ)) (r : Result Unit Obstacle) → given ≡ held
-  → ((name outs : List ℕ) → Found (record { name = name; ins = ins; outs = outs; body = given }) order r) → Found (record { name = name; ins = ins; outs = outs; body = held }) order r
+    → ((name outs : List ℕ) → Found (record { name = name; ins = ins; outs = outs; body = given }) order r) → Found (record { name = name; ins = ins; outs = outs; body = held }) order r
 of-held ins outs name given held order r e h = subst (λ ds. Found (record { name = name; ins = ins; outs = outs; body = ds }) order r) e (h name outs)
 
 pub returns-in-Ok : need.returns-in-Ok

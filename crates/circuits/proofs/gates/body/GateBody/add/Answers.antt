@@ -37,6 +37,6 @@ returns c =
     let g = c .args .item .now in
     let room : length (gatesOf b) < 64 = omega (arith, many b) in
     ap Ok (ap (map gateHeld) (c .push-reserved .ensures .items) ∙ map-push gateHeld (vec-items (b .gates)) (c .gate-of .result)
-      ∙ ap (λ e. gatesOf b ++ e ∷ []) (c .gate-of .ensures ∙ ap (λ xs. gateOf (g .kind) (values xs)) (c .as-slice-nets .ensures)))
+    ∙ ap (λ e. gatesOf b ++ e ∷ []) (c .gate-of .ensures ∙ ap (λ xs. gateOf (g .kind) (values xs)) (c .as-slice-nets .ensures)))
     ∙ ap (pushed intendedFormat (gatesOf b) (c .args .line .now .number) (g .kind) (netList (g .nets))) (sym (c .in-rest .is) ∙ c .barred .ensures ∙ ap (gateBarred (c .args .ins .now) (gatesOf b)) (c .as-slice-nets .ensures))
     ∙ sym (cond-false (leb 64 (length (gatesOf b))) _ _ (lt-leb 64 (length (gatesOf b)) room))
