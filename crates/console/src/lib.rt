@@ -1,4 +1,5 @@
 // What the programs print.
+ghost use Rattle.station.specs.Stations.{held, LeftByPair};
 use station::report::PAGE;
 use station::report::report_decline;
 use station::station::Station;
@@ -11,7 +12,9 @@ pub fn print_pair(
     station: &mut Station,
     drawn: &[u8],
     intended: &[u8],
-) -> io::Result<()> {
+) -> io::Result<()>
+    ensures { λ _. ⌜ LeftByPair (now (drawn .entry)) (now (intended .entry)) (held (now (station .entry))) (held (now (station .exit))) ⌝ }
+{
     match station.read_pair(drawn, intended) {
         Ok(read) => println!(
             rt,

@@ -12,6 +12,8 @@ use Rattle.cell.specs.Circuits.{Circuit}
 use Rattle.text.specs.declared.fault.Fault.{Fault}
 use Rattle.records.specs.Formats.{Format}
 use Rattle.files.specs.Reading.{Reads}
+use Rattle.files.specs.Written.{written}
+use Rattle.files.specs.Lawful.{Lawful}
 use Rattle.netlist.specs.Circuits.{circuitOf}
 use Rattle.station.specs.declared.slot.Slot.{Slot}
 
@@ -25,3 +27,8 @@ holds items s = cond (s .held) (Some (circuitOf items (s .current))) None
 abbrev pub ReadsInto : {K I : Type 0} → Format K I → List ℕ → Option (Circuit I) → Result ℕ Fault → Option (Circuit I) → Type 0
 ReadsInto {I = I} f text before (Ok n) after = (c : Circuit I) × Reads f text (Ok c) × (after ≡ Some c) × (n ≡ length (c .ins))
 ReadsInto f text before (Err e) after = Reads f text (Err e) × (after ≡ before)
+
+-- a reading is done exactly where the text is the one that is written of a lawful circuit, and then that circuit is held
+abbrev pub DoneExactly : {K I : Type 0} → Format K I → List ℕ → Result ℕ Fault → Option (Circuit I) → Type 0
+DoneExactly {I = I} f text (Ok n) after = (c : Circuit I) × Lawful f c × (text ≡ written f c) × (after ≡ Some c)
+DoneExactly {I = I} f text (Err e) after = (c : Circuit I) → Lawful f c → ¬ (text ≡ written f c)

@@ -42,3 +42,7 @@ pub data PairRead (drawn intended : List ℕ) (before : Held) : Result Summary D
   drawn-declined : (f : Fault) → Reads drawnFormat drawn (Err f) → PairRead drawn intended before (Err (record { origin = origins.Drawn; fault = f })) before
   intended-declined : (c : Drawn) (f : Fault) → Reads drawnFormat drawn (Ok c) → Reads intendedFormat intended (Err f)
       → PairRead drawn intended before (Err (record { origin = origins.Intended; fault = f })) (record { drawn = Some c; intended = before .intended })
+
+-- what a station holds after a pair was read, whatever came of it
+abbrev pub LeftByPair : List ℕ → List ℕ → Held → Held → Type 0
+LeftByPair drawn intended before after = (r : Result Summary Decline) × PairRead drawn intended before r after

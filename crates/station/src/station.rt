@@ -6,7 +6,7 @@ ghost use Rattle.cell.specs.Circuits.{Drawn};
 ghost use Rattle.cell.specs.Waiting.{EvaluationOrder};
 ghost use Rattle.files.specs.Files.{drawnFormat, intendedFormat};
 ghost use Rattle.files.specs.Lawful.{ReadExactly, ReadOneWay};
-ghost use Rattle.station.specs.Slots.{ReadsInto};
+ghost use Rattle.station.specs.Slots.{ReadsInto, DoneExactly};
 ghost use Rattle.netlist.specs.Circuits.{circuitOf};
 ghost use Rattle.circuits.specs.Bodies.{devicesOf, gatesOf};
 ghost use Rattle.station.specs.Stations.{held, keptOrder, empty, summed, PairRead};
@@ -57,7 +57,8 @@ impl Station {
         ensures other { λ _. ⌜ held (now (self .exit)) .intended ≡ held (now (self .entry)) .intended ⌝ }
         ensures order { λ r. ⌜ made r (λ _. (c : Drawn) → held (now (self .exit)) .drawn ≡ Some c → EvaluationOrder c (keptOrder (now (self .exit)))) ⌝ }
         ensures same_order { λ r. ⌜ refused r (λ _. keptOrder (now (self .exit)) ≡ keptOrder (now (self .entry))) ⌝ }
-        ensures law { λ _. ⌜ ReadExactly drawnFormat (now (text .entry)) ⌝ }
+        ensures law { λ r. ⌜ DoneExactly drawnFormat (now (text .entry)) r (held (now (self .exit)) .drawn) ⌝ }
+        ensures exactly { λ _. ⌜ ReadExactly drawnFormat (now (text .entry)) ⌝ }
         ensures one_way { λ _. ⌜ ReadOneWay drawnFormat (now (text .entry)) ⌝ }
     {
         self.drawn.read(text)
@@ -68,7 +69,8 @@ impl Station {
         ensures gives { λ r. ⌜ ReadsInto intendedFormat (now (text .entry)) (held (now (self .entry)) .intended) r (held (now (self .exit)) .intended) ⌝ }
         ensures other { λ _. ⌜ held (now (self .exit)) .drawn ≡ held (now (self .entry)) .drawn ⌝ }
         ensures same_order { λ _. ⌜ keptOrder (now (self .exit)) ≡ keptOrder (now (self .entry)) ⌝ }
-        ensures law { λ _. ⌜ ReadExactly intendedFormat (now (text .entry)) ⌝ }
+        ensures law { λ r. ⌜ DoneExactly intendedFormat (now (text .entry)) r (held (now (self .exit)) .intended) ⌝ }
+        ensures exactly { λ _. ⌜ ReadExactly intendedFormat (now (text .entry)) ⌝ }
         ensures one_way { λ _. ⌜ ReadOneWay intendedFormat (now (text .entry)) ⌝ }
     {
         self.intended.read(text)
