@@ -17,6 +17,9 @@ use text::lines::Field;
 use text::lines::Fields;
 use text::lines::Line;
 
+// The most bytes of a name.
+pub const NAME: usize = 16;
+
 // Whether a field is `word`, whole.
 pub fn is_word(bytes: &[u8], word: &[u8]) -> bool
     ensures { λ r. ⌜ r ≡ sameBytes (now (bytes .entry)) (now (word .entry)) ⌝ }
@@ -52,7 +55,7 @@ fn name_byte(b: u8) -> bool
 fn is_name(bytes: &[u8]) -> bool
     ensures { λ r. ⌜ r ≡ isName (now (bytes .entry)) ⌝ }
 {
-    if bytes.is_empty() || bytes.len() > 16 {
+    if bytes.is_empty() || bytes.len() > NAME {
         return false;
     }
     for b in bytes {

@@ -33,11 +33,14 @@ fn reason_for(obstacle: Obstacle) -> Reason
     }
 }
 
+// The most devices of a file.
+const MOST: usize = 256;
+
 impl Devices {
     pub fn new(heap: Global) -> Result<Devices, AllocError>
         ensures { λ r. ⌜ made r (λ b. devicesOf b ≡ []) ⌝ }
     {
-        let devices = Vec::with_capacity(heap, 256)?;
+        let devices = Vec::with_capacity(heap, MOST)?;
         let order = Order::new(heap)?;
         Ok(Devices { devices, order })
     }
@@ -86,7 +89,7 @@ pub impl<'a> Body<'a> for Devices as DeviceBody {
 
     // Any net may be a gate net or an end.
     fn add(&mut self, _ins: &[u8], item: &DeviceRecord<'a>, line: &Line<'a>) -> Result<(), Fault> {
-        if self.devices.len() >= 256 {
+        if self.devices.len() >= MOST {
             return Err(line.fault(Reason::TooManyRecords));
         }
         let kind = item.kind;

@@ -45,11 +45,14 @@ fn gate_of(kind: GateKind, nets: &[NetAt]) -> LogicGate
     }
 }
 
+// The most gates of a file.
+const MOST: usize = 64;
+
 impl Gates {
     pub fn new(heap: Global) -> Result<Gates, AllocError>
         ensures { λ r. ⌜ made r (λ b. gatesOf b ≡ []) ⌝ }
     {
-        let gates = Vec::with_capacity(heap, 64)?;
+        let gates = Vec::with_capacity(heap, MOST)?;
         Ok(Gates { gates })
     }
 
@@ -126,7 +129,7 @@ pub impl<'a> Body<'a> for Gates as GateBody {
 
     fn add(&mut self, ins: &[u8], item: &GateRecord<'a>, line: &Line<'a>) -> Result<(), Fault> {
         let nets = item.nets.as_slice();
-        if self.gates.len() >= 64 {
+        if self.gates.len() >= MOST {
             return Err(line.fault(Reason::TooManyRecords));
         }
         if let Some(place) = self.barred(ins, nets) {

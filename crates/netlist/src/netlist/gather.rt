@@ -13,11 +13,15 @@ use super::Netlist;
 use reader::body::Body;
 use records::Net;
 use records::Record;
+use records::fields::NAME;
 use std::alloc::AllocError;
 use std::alloc::Global;
 use text::fault::Fault;
 use text::fault::Reason;
 use text::lines::Line;
+
+// The most IN records of a file, and the most OUT records.
+const PORTS: usize = 16;
 
 // Whether a net is in a list of nets.
 pub fn listed(nets: &[u8], net: u8) -> bool
@@ -33,9 +37,9 @@ impl<'a, B: Body<'a>> Netlist<B> {
         B: Drop,
         ensures { λ r. ⌜ made r (λ c. circuitOf (B·Body .items) c ≡ record { name = []; ins = []; outs = []; body = B·Body .items body }) ⌝ }
     {
-        let name = Vec::with_capacity(heap, 16)?;
-        let ins = Vec::with_capacity(heap, 16)?;
-        let outs = Vec::with_capacity(heap, 16)?;
+        let name = Vec::with_capacity(heap, NAME)?;
+        let ins = Vec::with_capacity(heap, PORTS)?;
+        let outs = Vec::with_capacity(heap, PORTS)?;
         Ok(Netlist {
             name,
             ins,
@@ -68,7 +72,7 @@ impl<'a, B: Body<'a>> Netlist<B> {
     fn add_in(&mut self, net: &Net<'a>, line: &Line<'a>) -> Result<(), Fault>
         ensures { λ r. ⌜ okWith r (circuitOf (B·Body .items) (now (self .exit))) ≡ addedIn (circuitOf (B·Body .items) (now (self .entry))) (now (line .entry) .number) (now (line .entry) .start) (netShown (now (net .entry))) ⌝ }
     {
-        if self.ins.len() >= 16 {
+        if self.ins.len() >= PORTS {
             return Err(line.fault(Reason::TooManyRecords));
         }
         if net.value < 2 || listed(&self.ins, net.value) {
@@ -81,7 +85,7 @@ impl<'a, B: Body<'a>> Netlist<B> {
     fn add_out(&mut self, net: &Net<'a>, line: &Line<'a>) -> Result<(), Fault>
         ensures { λ r. ⌜ okWith r (circuitOf (B·Body .items) (now (self .exit))) ≡ addedOut (circuitOf (B·Body .items) (now (self .entry))) (now (line .entry) .number) (now (line .entry) .start) (netShown (now (net .entry))) ⌝ }
     {
-        if self.outs.len() >= 16 {
+        if self.outs.len() >= PORTS {
             return Err(line.fault(Reason::TooManyRecords));
         }
         if net.value < 2 || listed(&self.ins, net.value) || listed(&self.outs, net.value) {

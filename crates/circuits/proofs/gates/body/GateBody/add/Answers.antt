@@ -16,8 +16,8 @@ use Rattle.circuits.specs.Bodies.{gateHeld, gatesOf}
 use Rattle.circuits.proofs.Gating.{many}
 use Rattle.circuits.proofs.gates.body.GateBody.add.Needs as need
 
-pub returns-then-len-ge64 : need.returns-then-len-ge64
-returns-then-len-ge64 c =
+pub returns-then-len-ge-MOST : need.returns-then-len-ge-MOST
+returns-then-len-ge-MOST c =
     let b = c .args .self .now in
     let full : 64 ≤ length (gatesOf b) = omega (arith, many b) in
     ap Err (c .fault .ensures) ∙ sym (cond-true (leb 64 (length (gatesOf b))) _ _ (le-leb 64 (length (gatesOf b)) full))
