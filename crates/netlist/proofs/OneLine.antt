@@ -1,5 +1,5 @@
 -- One line of a reading, by what each layer said of it. Assumes nothing.
-use mathlib.Core.Path.{_≡_, refl, sym, ap, _∙_}
+use mathlib.Core.Path.{_≡_, refl, sym, ap, subst, _∙_}
 use mathlib.Core.Bool.{Bool, true, false, cond}
 use mathlib.Core.List.{List, _∷_}
 use Prim.Native.Nat.{ℕ, _+_}
@@ -15,7 +15,7 @@ use Rattle.text.specs.declared.fault.Fault.{Fault}
 use Rattle.text.specs.declared.fault.Reason.the-variants.{MalformedLine, OutOfTurn}
 use Rattle.text.specs.Faults.{fault}
 use Rattle.text.specs.Outcomes.{andThen, mapOk}
-use Rattle.text.specs.Lines.{formed, linesFrom, fieldsOf, NextLine}
+use Rattle.text.specs.Lines.{Part, formed, linesFrom, fieldsOf, LineAt, NextLine}
 use Rattle.text.specs.declared.lines.Line.{Line}
 use Rattle.text.proofs.Splits.{split-cons}
 use Rattle.text.proofs.Steps.{err-ok, off-on}
@@ -30,14 +30,9 @@ pub none-made : {X E : Type 0} (r : Result X E) (e : E) (Q : X → Type 0) → r
 none-made (Ok x) e Q h = err-ok e x (sym h)
 none-made (Err x) e Q h = tt
 
--- a line in form, and what follows it
-pub record Taken (text : List ℕ) (p : ℕ) (l : List ℕ) (q : ℕ) : Type 0 where
-  pub next : q ≡ p + length l + 1
-  pub lines : linesFrom text p ≡ l ∷ linesFrom text q
-  pub good : formed l ≡ true
-
-pub taken : (text : List ℕ) (p n : ℕ) (l : Line) (q m : ℕ) → NextLine text p n (Ok (Some l)) q m → Taken text p (l .bytes .now) q
-taken text p n l q m h = record { next = h .2; lines = h .5; good = h .6 }
+-- the line that a step took
+pub taken : (text : List ℕ) (p n : ℕ) (o : Option Line) (l : Line) (q m : ℕ) → o ≡ Some l → NextLine text p n (Ok o) q m → LineAt text p n l q × (m ≡ n + 1)
+taken text p n o l q m e h = subst (λ x. NextLine text p n (Ok x) q m) e h
 
 if-closed : {X : Type 0} (s : Stage) (x y : X) → true ≡ ifClosed s true false → ifClosed s x y ≡ x
 if-closed Opening x y h = off-on (sym h)
@@ -53,54 +48,62 @@ if-open Outputs x y h = refl
 if-open Body x y h = refl
 if-open Closed x y h = off-on h
 
-module _ {K I : Type 0} (f : Format K I) {text : List ℕ} {p : ℕ} {l : List ℕ} {q : ℕ} (k : Taken text p l q) (n : ℕ) where
+module _ {K I : Type 0} (f : Format K I) (text : List ℕ) (p n : ℕ) (line : Line) (q : ℕ) (k : LineAt text p n line q) where
+  abbrev l : List ℕ
+  l = line .bytes .now
+
+  abbrev fields : List Part
+  fields = fieldsOf (line .start) l
+
   module _ (s : Stage) (c : Circuit I) where
     -- the text past this line, after END or not
-    abbrev goesOn : Stage × Circuit I → Result (Ended I) Fault
-    goesOn r = ifClosed (r .0) (Ok (record { circuit = r .1; line = n; place = p; next = q; rest = linesFrom text q })) (linesRead f (r .0) (r .1) (n + 1) q (linesFrom text q))
-
     abbrev after : ℕ → List (List ℕ) → Stage × Circuit I → Result (Ended I) Fault
     after o ls r = ifClosed (r .0) (Ok (record { circuit = r .1; line = n; place = p; next = o; rest = ls })) (linesRead f (r .0) (r .1) (n + 1) o ls)
+
+    abbrev goesOn : Stage × Circuit I → Result (Ended I) Fault
+    goesOn = after q (linesFrom text q)
 
     abbrev taking : Stage × Entry K → Result (Stage × Circuit I) Fault
     taking r = mapOk (λ d. (r .0, d)) (added f c n p (r .1))
 
-    by-record : linesRead f s c n p (linesFrom text p) ≡ andThen (andThen (recordOf f s n p (fieldsOf p l)) taking) goesOn
+    by-record : linesRead f s c n p (linesFrom text p) ≡ andThen (andThen (recordOf f s (line .number) (line .start) fields) taking) goesOn
     by-record =
         ap (linesRead f s c n p) (k .lines)
         ∙ split-cons (λ ls. linesRead f s c n p (l ∷ ls) ≡ andThen (lineRead f s c n p l) (after (p + length l + 1) ls)) (λ m ms. refl) 10 (drop q text)
         ∙ ap (λ o. andThen (lineRead f s c n p l) (after o (linesFrom text q))) (sym (k .next))
         ∙ ap (λ r. andThen r goesOn) (cond-true (formed l) (andThen (recordOf f s n p (fieldsOf p l)) taking) (Err (fault MalformedLine n p)) (k .good))
+        ∙ (λ i. andThen (andThen (recordOf f s (sym (k .number) i) (sym (k .start) i) (fieldsOf (sym (k .start) i) l)) taking) goesOn)
 
-    pub record-declined : (e : Fault) → Err e ≡ recordOf f s n p (fieldsOf p l) → linesRead f s c n p (linesFrom text p) ≡ Err e
+    pub record-declined : (e : Fault) → Err e ≡ recordOf f s (line .number) (line .start) fields → linesRead f s c n p (linesFrom text p) ≡ Err e
     record-declined e h = by-record ∙ ap (λ r. andThen (andThen r taking) goesOn) (sym h)
 
-    by-added : (t : Stage) (e : Entry K) → Ok (t, e) ≡ recordOf f s n p (fieldsOf p l) → linesRead f s c n p (linesFrom text p) ≡ andThen (mapOk (λ d. (t, d)) (added f c n p e)) goesOn
-    by-added t e h = by-record ∙ ap (λ r. andThen (andThen r taking) goesOn) (sym h)
+    module _ (t : Stage) (e : Entry K) (is : Ok (t, e) ≡ recordOf f s (line .number) (line .start) fields) where
+      by-added : linesRead f s c n p (linesFrom text p) ≡ andThen (mapOk (λ d. (t, d)) (added f c (line .number) (line .start) e)) goesOn
+      by-added = by-record ∙ ap (λ r. andThen (andThen r taking) goesOn) (sym is) ∙ (λ i. andThen (mapOk (λ d. (t, d)) (added f c (sym (k .number) i) (sym (k .start) i) e)) goesOn)
 
-    module _ (t : Stage) (e : Entry K) (is : Ok (t, e) ≡ recordOf f s n p (fieldsOf p l)) where
-      pub add-declined : (x : Fault) → Err x ≡ added f c n p e → linesRead f s c n p (linesFrom text p) ≡ Err x
-      add-declined x g = by-added t e is ∙ ap (λ r. andThen (mapOk (λ d. (t, d)) r) goesOn) (sym g)
+      pub add-declined : (x : Fault) → Err x ≡ added f c (line .number) (line .start) e → linesRead f s c n p (linesFrom text p) ≡ Err x
+      add-declined x g = by-added ∙ ap (λ r. andThen (mapOk (λ d. (t, d)) r) goesOn) (sym g)
 
-      pub line-done : (d : Circuit I) → Ok d ≡ added f c n p e → false ≡ ifClosed t true false → linesRead f s c n p (linesFrom text p) ≡ linesRead f t d (n + 1) q (linesFrom text q)
-      line-done d g o = by-added t e is ∙ ap (λ r. andThen (mapOk (λ d. (t, d)) r) goesOn) (sym g) ∙ if-open t _ _ o
+      module _ (d : Circuit I) (g : Ok d ≡ added f c (line .number) (line .start) e) where
+        pub line-done : false ≡ ifClosed t true false → linesRead f s c n p (linesFrom text p) ≡ linesRead f t d (n + 1) q (linesFrom text q)
+        line-done o = by-added ∙ ap (λ r. andThen (mapOk (λ d. (t, d)) r) goesOn) (sym g) ∙ if-open t _ _ o
 
-      pub end-done : (d : Circuit I) → Ok d ≡ added f c n p e → true ≡ ifClosed t true false
-          → linesRead f s c n p (linesFrom text p) ≡ Ok (record { circuit = d; line = n; place = p; next = q; rest = linesFrom text q })
-      end-done d g o = by-added t e is ∙ ap (λ r. andThen (mapOk (λ d. (t, d)) r) goesOn) (sym g) ∙ if-closed t _ _ o
+        pub end-done : true ≡ ifClosed t true false → linesRead f s c n p (linesFrom text p) ≡ Ok (record { circuit = d; line = n; place = p; next = q; rest = linesFrom text q })
+        end-done o = by-added ∙ ap (λ r. andThen (mapOk (λ d. (t, d)) r) goesOn) (sym g) ∙ if-closed t _ _ o
 
   -- a line after END
-  abbrev turnedDown : Result (Word K) Fault → Fault
-  turnedDown r = elim r [ Ok w ↦ fault OutOfTurn n p | Err e ↦ e ]
+  abbrev turnedDown : ℕ → ℕ → Result (Word K) Fault → Fault
+  turnedDown m o r = elim r [ Ok w ↦ fault OutOfTurn m o | Err e ↦ e ]
 
-  line-follows : nothingAfter f n p (linesFrom text p) ≡ Err (turnedDown (firstWord f n p (fieldsOf p l)))
+  line-follows : nothingAfter f n p (linesFrom text p) ≡ Err (turnedDown (line .number) (line .start) (firstWord f (line .number) (line .start) fields))
   line-follows =
       ap (nothingAfter f n p) (k .lines)
       ∙ split-cons (λ ls. nothingAfter f n p (l ∷ ls) ≡ Err (lineAfter f n p l)) (λ m ms. refl) 10 (drop q text)
-      ∙ ap Err (cond-true (formed l) (turnedDown (firstWord f n p (fieldsOf p l))) (fault MalformedLine n p) (k .good))
+      ∙ ap Err (cond-true (formed l) (turnedDown n p (firstWord f n p (fieldsOf p l))) (fault MalformedLine n p) (k .good))
+      ∙ (λ i. Err (turnedDown (sym (k .number) i) (sym (k .start) i) (firstWord f (sym (k .number) i) (sym (k .start) i) (fieldsOf (sym (k .start) i) l))))
 
-  pub word-unknown : (e : Fault) → Err e ≡ firstWord f n p (fieldsOf p l) → nothingAfter f n p (linesFrom text p) ≡ Err e
-  word-unknown e h = line-follows ∙ ap (λ r. Err (turnedDown r)) (sym h)
+  pub word-unknown : (e : Fault) → Err e ≡ firstWord f (line .number) (line .start) fields → nothingAfter f n p (linesFrom text p) ≡ Err e
+  word-unknown e h = line-follows ∙ ap (λ r. Err (turnedDown (line .number) (line .start) r)) (sym h)
 
-  pub word-late : (w : Word K) → Ok w ≡ firstWord f n p (fieldsOf p l) → nothingAfter f n p (linesFrom text p) ≡ Err (fault OutOfTurn n p)
-  word-late w h = line-follows ∙ ap (λ r. Err (turnedDown r)) (sym h)
+  pub word-late : (w : Word K) → Ok w ≡ firstWord f (line .number) (line .start) fields → nothingAfter f n p (linesFrom text p) ≡ Err (fault OutOfTurn (line .number) (line .start))
+  word-late w h = line-follows ∙ ap (λ r. Err (turnedDown (line .number) (line .start) r)) (sym h)

@@ -83,9 +83,17 @@ onlyThree (a ∷ b ∷ c ∷ d ∷ r) = None
 abbrev pub threeParts : Field × Field × Field → Part × Part × Part
 threeParts t = (partOf (t .0), partOf (t .1), partOf (t .2))
 
+-- l is line n of a text, in form, from place p to the next line at place q
+pub record LineAt (text : List ℕ) (p n : ℕ) (l : Line) (q : ℕ) : Type 0 where
+  pub number : l .number ≡ n
+  pub start : l .start ≡ p
+  pub next : q ≡ p + length (l .bytes .now) + 1
+  pub within : q ≤ length text
+  pub lines : linesFrom text p ≡ l .bytes .now ∷ linesFrom text q
+  pub good : formed (l .bytes .now) ≡ true
+
 -- what a step from place p and line n to place q and line m gives
 abbrev pub NextLine : List ℕ → ℕ → ℕ → Result (Option Line) Fault → ℕ → ℕ → Type 0
 NextLine text p n (Err f) q m = (f ≡ fault MalformedLine n p) × Malformed (linesFrom text p)
 NextLine text p n (Ok None) q m = (linesFrom text p ≡ [] ∷ []) × (q ≡ p) × (m ≡ n)
-NextLine text p n (Ok (Some l)) q m = (l .number ≡ n) × (l .start ≡ p) × (q ≡ p + length (l .bytes .now) + 1) × (q ≤ length text) × (m ≡ n + 1)
-    × (linesFrom text p ≡ l .bytes .now ∷ linesFrom text q) × (formed (l .bytes .now) ≡ true)
+NextLine text p n (Ok (Some l)) q m = LineAt text p n l q × (m ≡ n + 1)

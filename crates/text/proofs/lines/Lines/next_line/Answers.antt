@@ -43,6 +43,6 @@ returns c =
     let some : n < length rest = omega (arith, c .until-n .ensures .bound, c .if-n-rest .left) in
     let k = cut-at 10 rest n (c .until-n .ensures .value) some in
     record {
-      gives = (refl, refl, ap (λ m. p + m + 1) (sym (k .long)), omega (arith, long), refl, line-cut text rest _ p n is k, sym (c .if-not-formed .ensures tt));
+      gives = (record { number = refl; start = refl; next = ap (λ m. p + m + 1) (sym (k .long)); within = omega (arith, long); lines = line-cut text rest _ p n is k; good = sym (c .if-not-formed .ensures tt) }, refl);
       same = refl;
     }
