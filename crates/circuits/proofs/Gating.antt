@@ -2,15 +2,14 @@
 use mathlib.Core.Path.{_≡_, refl, sym, ap, subst, _∙_}
 use mathlib.Core.Bool.{Bool, true, false, cond, _||_, Bool·beq}
 use mathlib.Core.List.{List, [], _∷_, _++_, map}
-use mathlib.Core.Logic.{inl, inr, ⊎-elim}
+use mathlib.Core.Logic.{inl, inr}
 use native.Mathlib.Omega.{arith}
-use Prim.Native.Nat.{ℕ, zero, suc, _+_, _-_, _≤_, _<_}
+use Prim.Native.Nat.{ℕ, zero, suc, _+_, _-_, _<_}
 use lib.Dec.{eqb}
 use lib.ListN.{length, take, drop, set, getD}
-use Rattle.std.specs.declared.option.Option.{Option}
 use Rattle.std.specs.declared.option.Option.the-variants.{Some, None}
 use Rattle.std.specs.Of.Vec.{vec-len, vec-items}
-use Rattle.std.proofs.shelf.Lists.{at-drop-more, at-drop-all, drop-all, length-drop, length-map, getD-map, take-more, take-more-set}
+use Rattle.std.proofs.shelf.Lists.{at-drop-more, drop-all, length-drop, length-map, getD-map, take-more, take-more-set}
 use Rattle.std.proofs.shelf.Tests.{eq-eqb, ne-eqb, eqb-true, eqb-false, or-left}
 use Rattle.cell.specs.declared.GateKind.{GateKind}
 use Rattle.cell.specs.Circuits.{Gate}

@@ -1,8 +1,8 @@
 -- What a record that is read says of its fields. Assumes nothing.
 use mathlib.Core.Path.{_≡_, refl, sym, ap, subst, _∙_}
 use mathlib.Core.Bool.{Bool, true, false, cond}
-use mathlib.Core.List.{List, [], _∷_, map}
-use Prim.Native.Nat.{ℕ, suc, _≤_}
+use mathlib.Core.List.{List, [], _∷_}
+use Prim.Native.Nat.{ℕ, _≤_}
 use lib.Chars.{codes}
 use lib.ListN.{length}
 use Rattle.std.specs.declared.option.Option.{Option}
@@ -13,7 +13,6 @@ use Rattle.std.specs.Written.{decimal}
 use Rattle.std.specs.shelf.Text.{sameBytes}
 use Rattle.std.proofs.shelf.Equals.{sameBytes-decides}
 use Rattle.cell.specs.Lists.{Every}
-use Rattle.cell.specs.Circuits.{Numbered}
 use Rattle.text.specs.declared.fault.Reason.the-variants.{UnknownWord, OutOfTurn, FieldCount, BadField}
 use Rattle.text.specs.Faults.{fault}
 use Rattle.text.specs.Outcomes.{andThen, mapOk}
@@ -24,10 +23,10 @@ use Rattle.records.specs.declared.NetAt.{NetAt}
 use Rattle.records.specs.declared.Stage.{Stage}
 use Rattle.records.specs.declared.Word.{Word}
 use Rattle.records.specs.declared.Word.the-variants.{Cell, In, Out, Item, End}
-use Rattle.records.specs.Numbers.{netOf, isName}
+use Rattle.records.specs.Numbers.{isName}
 use Rattle.records.specs.Formats.{Format}
-use Rattle.records.specs.Records.{looked, headWord, orElse, wordOf, lastRead, mayFollow, turned, Entry, cell, input, output, item, finish, oneField, netAt, netsAt, nameAt, netsCounted, entryOf, recordOf, values}
-use Rattle.records.proofs.Spelling.{Net, net-at, NetFields, nets-at}
+use Rattle.records.specs.Records.{looked, headWord, orElse, wordOf, lastRead, mayFollow, turned, Entry, cell, input, output, item, finish, oneField, netAt, netsAt, nameAt, netsCounted, entryOf, recordOf}
+use Rattle.records.proofs.Spelling.{net-at, NetFields, nets-at}
 
 only-one : (fs : List Part) (f : Part) → onlyOne fs ≡ Some f → fs ≡ f ∷ []
 only-one [] f h = cc

@@ -12,7 +12,7 @@ use Rattle.cell.specs.declared.Device.{Device}
 use Rattle.cell.specs.declared.DeviceKind.{DeviceKind}
 use Rattle.cell.specs.declared.GateKind.{GateKind}
 use Rattle.cell.specs.Lists.{In, Every}
-use Rattle.cell.specs.Circuits.{Circuit, Drawn, Gate, Intended, deviceNets, gateNets, Numbered}
+use Rattle.cell.specs.Circuits.{Drawn, Gate, Intended, deviceNets, gateNets, Numbered}
 use Rattle.cell.specs.Waiting.{WaitsInRing, TooLarge}
 use Rattle.text.specs.declared.fault.Reason.{Reason}
 use Rattle.text.specs.declared.fault.Reason.the-variants.{OutputWithoutGate, WaitingRing, LargeComponent}

@@ -1,5 +1,5 @@
 -- A reading up to END and past it is a whole reading. Assumes nothing.
-use mathlib.Core.Path.{_≡_, refl, sym, ap, _∙_}
+use mathlib.Core.Path.{_≡_, refl, sym, _∙_}
 use Rattle.std.specs.declared.option.Option.{Option}
 use Rattle.std.specs.declared.option.Option.the-variants.{Some, None}
 use Rattle.std.specs.declared.result.Result.{Result}
@@ -12,7 +12,7 @@ use Rattle.text.specs.declared.lines.Lines.{Lines}
 use Rattle.text.specs.Outcomes.{mapOk, okWith}
 use Rattle.text.proofs.Steps.{err-ok}
 use Rattle.records.specs.Formats.{Format}
-use Rattle.files.specs.Reading.{Ended, nothingAfter, closed, FromEnd}
+use Rattle.files.specs.Reading.{Ended, nothingAfter, FromEnd}
 use Rattle.reader.specs.Gathered.{answered}
 use Rattle.netlist.specs.Endings.{linesLeft, Past, UpTo}
 

@@ -1,7 +1,5 @@
 // A whole text into a netlist.
 ghost use mathlib.Core.Path.{_≡_};
-ghost use Prim.Native.Nat.{_≤_};
-ghost use lib.ListN.{length};
 ghost use Rattle.std.specs.Vec.{made};
 ghost use Rattle.text.specs.Outcomes.{okWith};
 ghost use Rattle.files.specs.Reading.{nothingAfter, Reads};

@@ -1,13 +1,11 @@
 -- What finding an evaluation order gives. Assumes nothing.
-use mathlib.Core.Path.{_≡_}
 use mathlib.Core.List.{List, [], _∷_}
 use Prim.Native.Nat.{ℕ}
 use lib.ListN.{take, drop}
 use Rattle.std.specs.declared.result.Result.{Result}
 use Rattle.std.specs.declared.result.Result.the-variants.{Ok, Err}
 use Rattle.std.specs.Of.Vec.{vec-items}
-use Rattle.cell.specs.declared.Device.{Device}
-use Rattle.cell.specs.Circuits.{Drawn, Circuit}
+use Rattle.cell.specs.Circuits.{Drawn}
 use Rattle.cell.specs.Waiting.{WaitsInRing, TooLarge, EvaluationOrder}
 use Rattle.order.specs.declared.Obstacle.{Obstacle}
 use Rattle.order.specs.declared.Obstacle.the-variants.{WaitingRing, LargeComponent}

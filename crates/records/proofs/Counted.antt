@@ -59,9 +59,6 @@ net-done n f fs at i x l e =
     ∙ one-more x (take i at) (netsAt n fs)
     ∙ ap (λ done. mapOk (λ xs. done ++ xs) (netsAt n fs)) (sym (take-more-set at i x l))
 
-pub net-declined : (n : ℕ) (f : Part) (fs : List Part) (done : List NetAt) (e : Fault) → Err e ≡ netAt n f → mapOk (λ xs. done ++ xs) (netsAt n (f ∷ fs)) ≡ Err e
-net-declined n f fs done e h = ap (λ r. mapOk (λ xs. done ++ xs) (andThen r (λ y. mapOk (λ xs. y ∷ xs) (netsAt n fs)))) (sym h)
-
 -- a record that is read lists as many nets as its kind takes, each a net number
 
 pub shown-proper : {R K I : Type 0} (f : Format K I) (shown : R → K × List NetAt) (k : K) (n p : ℕ) (fs : List Part) (r : Result R Fault)

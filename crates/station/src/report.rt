@@ -1,6 +1,6 @@
 // What came of a call, as a line on a lent page.
 ghost use mathlib.Core.Path.{_≡_};
-ghost use Prim.Native.Nat.{_≤_, _<_};
+ghost use Prim.Native.Nat.{_<_};
 ghost use lib.ListN.{length};
 ghost use Rattle.station.specs.Reports.{lead as leadOf, Reported, declinedLine};
 use crate::page::put;

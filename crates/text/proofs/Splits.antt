@@ -1,16 +1,16 @@
 -- A list cut at its first d. Assumes nothing.
 use mathlib.Core.Path.{_≡_, refl, sym, ap, subst, _∙_}
-use mathlib.Core.Bool.{Bool, true, false, cond}
+use mathlib.Core.Bool.{true, false, cond}
 use mathlib.Core.List.{List, [], _∷_}
 use Prim.Native.Nat.{ℕ, suc, _+_, _-_, _≤_, _<_}
 use native.Mathlib.Nat.{add-assoc, sub-zero}
 use native.Mathlib.Omega.{arith}
 use lib.Dec.{eqb}
 use lib.ListN.{length, take, drop, getD}
-use Rattle.std.proofs.shelf.Lists.{at-drop-more, drop-drop, length-take-le, length-drop, take-all}
+use Rattle.std.proofs.shelf.Lists.{at-drop-more, drop-drop, length-take-le, take-all}
 use Rattle.std.proofs.shelf.Tests.{eq-eqb, ne-eqb, cond-true, cond-false}
 use Rattle.text.specs.Split.{onto, split, first}
-use Rattle.text.specs.Lines.{linesFrom, isNil, formed, Malformed, Part, placed}
+use Rattle.text.specs.Lines.{linesFrom, isNil, formed, Malformed, placed}
 
 pub first-le : (d : ℕ) (bs : List ℕ) → first d bs ≤ length bs
 first-le d [] = omega arith

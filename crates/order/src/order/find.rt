@@ -4,7 +4,7 @@ ghost use mathlib.Core.Bool.{true, false};
 ghost use Prim.Native.Nat.{ℕ};
 ghost use Rattle.std.specs.Vec.{made};
 ghost use Rattle.cell.specs.Lists.{Every};
-ghost use Rattle.cell.specs.Circuits.{Circuit, deviceNets, Numbered};
+ghost use Rattle.cell.specs.Circuits.{deviceNets, Numbered};
 ghost use Rattle.order.specs.Placing.{sizesIn, SomeLarge, NoneLarge};
 ghost use Rattle.order.specs.Found.{orderOf, Found};
 use super::Order;

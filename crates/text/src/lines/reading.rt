@@ -1,11 +1,11 @@
 ghost use mathlib.Core.Path.{_≡_};
-ghost use mathlib.Core.List.{List, [], _∷_};
-ghost use Prim.Native.Nat.{ℕ, _+_, _-_, _<_, _≤_};
-ghost use lib.ListN.{length, drop};
+ghost use mathlib.Core.List.{[], _∷_};
+ghost use Prim.Native.Nat.{_+_, _-_, _<_, _≤_};
+ghost use lib.ListN.{length};
 ghost use Rattle.std.specs.Options.{Cases as BySome, mapped};
 ghost use Rattle.std.specs.Results.{Cases as ByOk};
 ghost use Rattle.text.specs.Faults.{fault};
-ghost use Rattle.text.specs.Split.{split, first};
+ghost use Rattle.text.specs.Split.{first};
 ghost use Rattle.text.specs.Lines.{graphic as isGraphic, formed as isFormed, fieldsOf, partOf, NextLine, onlyOne, onlyThree, threeParts, isNil};
 ghost use Rattle.text.specs.Fields.{fieldsLeft};
 use super::Field;

@@ -1,6 +1,5 @@
 use mathlib.Core.Path.{refl}
 use native.Mathlib.Omega.{arith}
-use lib.ListN.{length}
 use Rattle.station.proofs.Overwriting.{put-all}
 use Rattle.station.proofs.page.put.Needs as need
 

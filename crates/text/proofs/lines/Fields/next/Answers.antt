@@ -1,6 +1,6 @@
-use mathlib.Core.Path.{_≡_, refl, sym, ap, subst, _∙_}
+use mathlib.Core.Path.{sym, ap, _∙_}
 use Prim.Native.Nat.{_+_, _-_}
-use lib.ListN.{length, drop, take}
+use lib.ListN.{take}
 use Rattle.std.proofs.shelf.Lists.{take-rest}
 use Rattle.text.specs.Lines.{Part}
 use Rattle.text.specs.Fields.{partsFrom, fieldsLeft}

@@ -1,10 +1,10 @@
-use mathlib.Core.Path.{_≡_, refl, sym, ap, subst, _∙_}
+use mathlib.Core.Path.{_≡_, refl, sym, ap, _∙_}
 use native.Mathlib.Omega.{arith}
-use Prim.Native.Nat.{_+_, _-_, _<_, _≤_}
+use Prim.Native.Nat.{_+_, _-_, _<_}
 use lib.ListN.{length, drop, take}
 use Rattle.std.proofs.shelf.Lists.{take-rest, length-drop, drop-all}
 use Rattle.text.specs.Split.{split}
-use Rattle.text.proofs.Splits.{Cut, cut-at, line-cut, line-last, malformed-last, malformed-line}
+use Rattle.text.proofs.Splits.{cut-at, line-cut, line-last, malformed-last, malformed-line}
 use Rattle.text.proofs.lines.Lines.next_line.Needs as need
 use Rattle.text.proofs.lines.Lines.next_line.Needs.{then-n-rest·by·then-n-rest, then-n-rest·by·else-n-rest·then-not-formed}
 

@@ -1,6 +1,4 @@
-use mathlib.Core.Path.{sym, ap, _∙_}
 use native.Mathlib.Omega.{arith}
-use Prim.Native.Nat.{_+_}
 use Rattle.std.proofs.shelf.Lists.{at-drop-all}
 use Rattle.text.specs.Split.{first}
 use Rattle.text.proofs.Splits.{first-at, first-past}
