@@ -1,4 +1,5 @@
 // The types of a cell, and what its parts mean (specs/).
+#![tactic(auto)]
 
 #[derive(Clone, Copy)]
 pub enum DeviceKind {

@@ -1,4 +1,5 @@
 // Forming the states of a drawn cell over any algebra of signals.
+#![tactic(auto)]
 mod component;
 pub mod signs;
 pub mod states;

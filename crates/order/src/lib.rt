@@ -1,3 +1,4 @@
+#![tactic(auto)]
 mod labels;
 pub mod order;
 

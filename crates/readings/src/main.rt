@@ -1,6 +1,7 @@
 // A table of pairs of texts, read one after another by one station: prints each pair's name and its line.
 //
 // A line of data/cases.txt has a name, a drawn text and an intended text, written short, with tabs between.
+#![tactic(auto)]
 use anyhow::Context;
 use console::print_pair;
 use shorthand::bytes_of;

@@ -1,5 +1,6 @@
 // Texts written short, for tables of cases: a space stands for a tab, `/` for a line feed, `<N>` for the byte N and `{N:UNIT}` for a
 // unit N times.
+#![tactic(auto)]
 
 // Adds the bytes that a text without `{` stands for.
 use anyhow::Context;
