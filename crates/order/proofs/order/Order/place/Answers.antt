@@ -12,12 +12,12 @@ loop-net-init c =
     let n = append-nil (vec_items c.args.self.now.nets) in
     (cc, omega (arith, ap length z), omega arith, refl, sym (ap length z))
 
-pub push-reserved-requires : goal.push-reserved-requires
-push-reserved-requires c =
+pub push_reserved-requires : goal.push_reserved-requires
+push_reserved-requires c =
     omega (arith, below_room c.args.labels.now c.args.label c.loop-net.net c.loop-net-test.true c.if-labels-net.true)
 
-pub overflow-add-size : goal.overflow-add-size
-overflow-add-size c =
+pub overflow_add-size : goal.overflow_add-size
+overflow_add-size c =
     omega (arith, below_room c.args.labels.now c.args.label c.loop-net.net c.loop-net-test.true c.if-labels-net.true)
 
 pub loop-net-preserved : goal.loop-net-preserved
@@ -32,8 +32,8 @@ loop-net-preserved c =
           let is = ap (λ (o : Order). o.nets) w.self-is in
           let kept = ap (λ (o : Order). o.sizes) w.self-is in (
             cc,
-            omega (arith, ap vec_len is, longer, w.push-reserved.ensures.len),
-            omega (arith, ap vec_capacity is, w.push-reserved.ensures.capacity),
+            omega (arith, ap vec_len is, longer, w.push_reserved.ensures.len),
+            omega (arith, ap vec_capacity is, w.push_reserved.ensures.capacity),
             kept ∙ c.loop-net.invariant.3,
             omega (arith, longer),
           )

@@ -8,13 +8,13 @@ loop-init c = arranged_none c.args.labels.now c.args.devices.now _ _ c.clear.ens
 
 pub loop-smaller : goal.loop-smaller
 loop-smaller c =
-    let arranged = c.place-round.ensures.arranged in
-    let few = sizes_few c.args.labels.now c.requires.table c.args.devices.now c.place-round.new.placed _ _ arranged in
-    omega (arith, few, c.place-round.ensures.more c.loop-test.true)
+    let arranged = c.place_round.ensures.arranged in
+    let few = sizes_few c.args.labels.now c.requires.table c.args.devices.now c.place_round.new.placed _ _ arranged in
+    omega (arith, few, c.place_round.ensures.more c.loop-test.true)
 
 pub returns : goal.returns
 returns c =
     record {
-      yes = λ e. (c.place-round.new.placed, c.place-round.ensures.arranged, c.all-placed.ensures.yes e);
-      not = λ e. (c.place-round.new.placed, c.place-round.ensures.stuck c.loop-test.false, c.all-placed.ensures.not e);
+      yes = λ e. (c.place_round.new.placed, c.place_round.ensures.arranged, c.all_placed.ensures.yes e);
+      not = λ e. (c.place_round.new.placed, c.place_round.ensures.stuck c.loop-test.false, c.all_placed.ensures.not e);
     }

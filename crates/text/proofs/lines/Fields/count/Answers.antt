@@ -9,5 +9,5 @@ few : (rest : Option (Bor (List ℕ))) (p : ℕ) → length (parts_from rest p) 
 few None p = omega arith
 few (Some r) p = omega (arith, placed_length p (split 9 r.now), split_few 9 r.now)
 
-pub overflow-add-n : goal.overflow-add-n
-overflow-add-n c = omega (arith, c.loop-n.invariant, few c.args.self.rest c.args.self.place, c.args.self.within)
+pub overflow_add-n : goal.overflow_add-n
+overflow_add-n c = omega (arith, c.loop-n.invariant, few c.args.self.rest c.args.self.place, c.args.self.within)
