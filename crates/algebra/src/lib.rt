@@ -1,5 +1,6 @@
 // Algebras of signs: each sign in hand means a value, and values can be joined and met.
 #![tactic(auto)]
+
 ghost use Rattle.std.specs.Prelude.{◌≡◌, ℕ, ◌^◌, ◌≤◌, Bool, false, Decides};
 ghost use Rattle.algebra.specs.Chain.{Chain, Laws};
 ghost use Rattle.algebra.specs.Holding.{Meaning, Means, Forming, Cleared};

@@ -1,5 +1,6 @@
 // The laws of states and of intended bits, each proved once.
 #![tactic(auto)]
+
 ghost use Rattle.cell.specs.Laws.{HasStates, OneAssignment, NeverNeither, LooseIsUnknown, HasBits, OneBit};
 ghost use Rattle.meaning.specs.Traced.{TracedStates};
 

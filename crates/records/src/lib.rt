@@ -1,6 +1,7 @@
 // The record layer: record words, net numbers and names, and the records that a line can be. A record borrows its fields
 // from the text and shows each with its place, counted in bytes from 0.
 #![tactic(auto)]
+
 use cell::{DeviceKind, GateKind};
 use text::lines::{Field, Line};
 

@@ -12,16 +12,16 @@ returns-then-columns-eq0 g c =
       one_join = one_join a.ops g.met.A.ChainAlgebra.laws;
     }
 
-pub overflow-add-width : goal.overflow-add-width
-overflow-add-width g c = ⊎_elim (λ e. omega arith) (λ l. omega arith) (width_fits c.args.nets c.args.columns _ c.requires.room)
+pub overflow_add-width : goal.overflow_add-width
+overflow_add-width g c = ⊎_elim (λ e. omega arith) (λ l. omega arith) (width_fits c.args.nets c.args.columns _ c.requires.room)
 
 pub loop-k-init : goal.loop-k-init
 loop-k-init g c =
     let a = g.A.ChainAlgebra in
     nets_start a.keeps a.ops c.args.nets c.args.columns (a.meaning c.args.alg.now) c.args.table.now c.requires.hand
 
-pub eliminate-net-requires : goal.eliminate-net-requires
-eliminate-net-requires g c = record {
+pub eliminate_net-requires : goal.eliminate_net-requires
+eliminate_net-requires g c = record {
   pivot = omega arith;
   wide = omega arith;
   room = omega arith;
@@ -31,14 +31,14 @@ eliminate-net-requires g c = record {
 pub loop-k-preserved : goal.loop-k-preserved
 loop-k-preserved g c =
     let a = g.A.ChainAlgebra in
-    nets_turn a.keeps a.ops c.args.nets c.args.columns c.loop-k.k (omega arith) (omega arith) c.requires.room c.loop-k.invariant (a.meaning c.eliminate-net.new.alg) c.eliminate-net.new.table c.in-ok-eliminate-net.ensures
+    nets_turn a.keeps a.ops c.args.nets c.args.columns c.loop-k.k (omega arith) (omega arith) c.requires.room c.loop-k.invariant (a.meaning c.eliminate_net.new.alg) c.eliminate_net.new.table c.in_ok-eliminate_net.ensures
 
-pub returns-in-err-eliminate-net : goal.returns-in-err-eliminate-net
-returns-in-err-eliminate-net g c =
+pub returns-in_err-eliminate_net : goal.returns-in_err-eliminate_net
+returns-in_err-eliminate_net g c =
     let a = g.A.ChainAlgebra in
     record {
-      0 = solving_err a.keeps a.ops c.args.nets c.args.columns _ (a.meaning c.eliminate-net.new.alg) _ c.eliminate-net.new.table _ c.from-residual.ensures.0
-          (nets_stopped a.keeps a.ops c.args.nets c.args.columns c.loop-k.k (omega arith) (omega arith) c.requires.room c.loop-k.invariant (a.meaning c.eliminate-net.new.alg) c.in-err-eliminate-net.ensures);
+      0 = solving_err a.keeps a.ops c.args.nets c.args.columns _ (a.meaning c.eliminate_net.new.alg) _ c.eliminate_net.new.table _ c.from_residual.ensures.0
+          (nets_stopped a.keeps a.ops c.args.nets c.args.columns c.loop-k.k (omega arith) (omega arith) c.requires.room c.loop-k.invariant (a.meaning c.eliminate_net.new.alg) c.in_err-eliminate_net.ensures);
       one_join = one_join a.ops g.met.A.ChainAlgebra.laws;
     }
 

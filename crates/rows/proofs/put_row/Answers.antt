@@ -8,14 +8,14 @@ bounds-row-at c = omega (arith, few_bits c.args.inputs c.args.setting (omega ari
 
 pub loop-i-init : goal.loop-i-init
 loop-i-init c =
-    let few : c.put-bits-at.result ≤ 16 = omega (arith, few_bits c.args.inputs c.args.setting (omega arith)) in
-    (few, letters_none _ c.put-bits-at.new.row c.put-bits-at.result (omega arith) c.put-bits-at.ensures.row, refl)
+    let few : c.put_bits-at.result ≤ 16 = omega (arith, few_bits c.args.inputs c.args.setting (omega arith)) in
+    (few, letters_none _ c.put_bits-at.new.row c.put_bits-at.result (omega arith) c.put_bits-at.ensures.row, refl)
 
 pub loop-i-preserved : goal.loop-i-preserved
-loop-i-preserved c = let from = c.put-bits-at.result + 1 + c.loop-i.i in (
+loop-i-preserved c = let from = c.put_bits-at.result + 1 + c.loop-i.i in (
   c.loop-i.invariant.0,
-  letters_more _ c.loop-i.row c.args.states.now (c.put-bits-at.result + 1) c.loop-i.i _ _ (omega arith) (omega arith) c.letter.ensures c.loop-i.invariant.1,
-  subst (λ (k : ℕ). drop k (set c.loop-i.row from c.letter.result) ≡ drop k (set c.put-bits-at.new.row c.put-bits-at.result 9)) (omega arith)
+  letters_more _ c.loop-i.row c.args.states.now (c.put_bits-at.result + 1) c.loop-i.i _ _ (omega arith) (omega arith) c.letter.ensures c.loop-i.invariant.1,
+  subst (λ (k : ℕ). drop k (set c.loop-i.row from c.letter.result) ≡ drop k (set c.put_bits-at.new.row c.put_bits-at.result 9)) (omega arith)
       (rest_more from c.letter.result c.loop-i.row _ c.loop-i.invariant.2),
 )
 
@@ -23,13 +23,13 @@ pub returns : goal.returns
 returns c =
     let sts = c.args.states.now in
     let row = c.loop-i.row in
-    let from = c.put-bits-at.result + 1 in
+    let from = c.put_bits-at.result + 1 in
     let end = from + length sts in
     let letters = letters_all _ row sts from c.loop-i.i (omega arith) c.loop-i.invariant.1 in
     let written = row_all c.args.inputs c.args.setting end sts row (omega arith) letters in
     let before = c.args.row.now in
-    let bits = c.put-bits-at.new.row in
-    let start = drop-set-lt from bits c.put-bits-at.result 9 (omega arith) ∙ rest_later c.put-bits-at.result from bits before (omega arith) c.put-bits-at.ensures.rest in
-    let rest = rest_more end 10 row before (subst (λ (k : ℕ). drop (from + k) row ≡ drop (from + k) (set bits c.put-bits-at.result 9)) (omega arith) c.loop-i.invariant.2 ∙ rest_later from end _ before (omega arith) start) in
+    let bits = c.put_bits-at.new.row in
+    let start = drop-set-lt from bits c.put_bits-at.result 9 (omega arith) ∙ rest_later c.put_bits-at.result from bits before (omega arith) c.put_bits-at.ensures.rest in
+    let rest = rest_more end 10 row before (subst (λ (k : ℕ). drop (from + k) row ≡ drop (from + k) (set bits c.put_bits-at.result 9)) (omega arith) c.loop-i.invariant.2 ∙ rest_later from end _ before (omega arith) start) in
     let long = length_all (end + 1) _ _ (omega (arith, length-set row end 10)) written in
     (c.if-inputs-gt-MOST.false, c.if-states-gt-MOST.false, long, both_parts (end + 1) _ _ before written rest)

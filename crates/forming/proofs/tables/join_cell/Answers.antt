@@ -3,7 +3,7 @@ use Rattle.forming.proofs.tables.join_cell.Goals as goal
 
 pub returns : goal.returns
 returns g c =
-    let formed = c.in-ok-table.ensures in
+    let formed = c.in_ok-table.ensures in
     let a = g.A.ChainAlgebra in
     cell_raised c.requires.boolean (a.meaning c.args.alg.now) (a.meaning c.join.new.self)
     c.args.nets c.args.width c.args.row c.args.column c.place-at.result c.args.table.now c.args.sign _ _

@@ -15,9 +15,9 @@ returns-in-Apart g c =
     take_idle a.ops a.bit m c.args.states.now c.args.nets.now c.args.device.now
     c.requires.nets.0.distinct c.requires.states.1 c.requires.may.1 c.requires.sure.1 (stays_same m) (inr c.in-Apart.ensures)
 
-pub join-link-requires : goal.join-link-requires
-join-link-requires g c =
-    let first = c.in-ok-surely.ensures.2.0.stays in
+pub join_link-requires : goal.join_link-requires
+join_link-requires g c =
+    let first = c.in_ok-surely.ensures.2.0.stays in
     record {
       boolean = c.requires.boolean;
       one = c.in-Link.ensures.0;
@@ -26,14 +26,14 @@ join-link-requires g c =
       room = omega (arith, c.requires.may.0, table_fits (length c.args.nets.now) 2 c.requires.nets.0.few (omega arith));
       hand = hand_stays first c.args.may.now c.requires.may.1;
       sign = first.hand _
-          (hand_at (g.A.ChainAlgebra.meaning c.args.alg.now) c.args.states.now c.place-of.result _ (omega (arith, c.requires.states.0)) c.requires.states.1
-          c.index-states-place-of.is);
+          (hand_at (g.A.ChainAlgebra.meaning c.args.alg.now) c.args.states.now c.place_of.result _ (omega (arith, c.requires.states.0)) c.requires.states.1
+          c.index-states-place_of.is);
     }
 
-pub join-link-requires-in-Link : goal.join-link-requires-in-Link
-join-link-requires-in-Link g c =
-    let formed = c.in-ok-surely.ensures in
-    let raised = c.in-ok-join-link.ensures in
+pub join_link-requires-in-Link : goal.join_link-requires-in-Link
+join_link-requires-in-Link g c =
+    let formed = c.in_ok-surely.ensures in
+    let raised = c.in_ok-join_link.ensures in
     record {
       boolean = c.requires.boolean;
       one = c.in-Link.ensures.0;
@@ -44,10 +44,10 @@ join-link-requires-in-Link g c =
       sign = raised.stays.hand _ formed.2.1.hand;
     }
 
-pub join-cell-requires : goal.join-cell-requires
-join-cell-requires g c =
-    let formed = c.in-ok-surely.ensures in
-    let one = c.in-ok-one.ensures in
+pub join_cell-requires : goal.join_cell-requires
+join_cell-requires g c =
+    let formed = c.in_ok-surely.ensures in
+    let one = c.in_ok-one.ensures in
     record {
       boolean = c.requires.boolean;
       row = c.in-Drive.ensures.0;
@@ -57,10 +57,10 @@ join-cell-requires g c =
       sign = one.1.hand;
     }
 
-pub join-cell-requires-in-Drive : goal.join-cell-requires-in-Drive
-join-cell-requires-in-Drive g c =
-    let raised = c.in-ok-join-cell.ensures in
-    let zero = c.in-ok-zero.ensures in
+pub join_cell-requires-in-Drive : goal.join_cell-requires-in-Drive
+join_cell-requires-in-Drive g c =
+    let raised = c.in_ok-join_cell.ensures in
+    let zero = c.in_ok-zero.ensures in
     record {
       boolean = c.requires.boolean;
       row = c.in-Drive.ensures.0;
@@ -70,11 +70,11 @@ join-cell-requires-in-Drive g c =
       sign = zero.1.hand;
     }
 
-pub join-cell-requires-in-Drive-2 : goal.join-cell-requires-in-Drive-2
-join-cell-requires-in-Drive-2 g c =
-    let formed = c.in-ok-surely.ensures in
-    let till = stays_then (stays_then c.in-ok-one.ensures.0.stays c.in-ok-join-cell.ensures.stays)
-    (stays_then c.in-ok-zero.ensures.0.stays c.in-ok-join-cell-2.ensures.stays) in
+pub join_cell-requires-in-Drive-2 : goal.join_cell-requires-in-Drive-2
+join_cell-requires-in-Drive-2 g c =
+    let formed = c.in_ok-surely.ensures in
+    let till = stays_then (stays_then c.in_ok-one.ensures.0.stays c.in_ok-join_cell.ensures.stays)
+    (stays_then c.in_ok-zero.ensures.0.stays c.in_ok-join_cell-2.ensures.stays) in
     record {
       boolean = c.requires.boolean;
       row = c.in-Drive.ensures.0;
@@ -84,50 +84,50 @@ join-cell-requires-in-Drive-2 g c =
       sign = till.hand _ formed.2.1.hand;
     }
 
-pub returns-in-ok-join-link : goal.returns-in-ok-join-link
-returns-in-ok-join-link g c =
+pub returns-in_ok-join_link : goal.returns-in_ok-join_link
+returns-in_ok-join_link g c =
     let a = g.A.ChainAlgebra in
-    let formed = c.in-ok-surely.ensures in
+    let formed = c.in_ok-surely.ensures in
     let m = a.meaning c.args.alg.now in
     let conducts = marks_may a.bit m c.args.states.now c.requires.states.0 c.requires.states.1 c.args.device.now c.requires.nets.1
-    c.conducts-at-opens.result c.conducts-at-opens.ensures _ _ c.place-of.ensures.is c.index-states-place-of.is in
+    c.conducts_at-opens.result c.conducts_at-opens.ensures _ _ c.place_of.ensures.is c.index-states-place_of.is in
     let surely = marks_sure a.bit m c.args.states.now c.requires.states.0 c.requires.states.1 c.args.device.now c.requires.nets.1
-    c.conducts-at-opens.result c.conducts-at-opens.ensures _ _ _ formed.0 c.place-of-2.ensures.is c.index-states-place-of-2.is
+    c.conducts_at-opens.result c.conducts_at-opens.ensures _ _ _ formed.0 c.place_of-2.ensures.is c.index-states-place_of-2.is
     formed.1 formed.2.1 in
-    MatchResult-weaker c.join-link-in-Link.result c.join-link-in-Link.ensures
+    MatchResult-weaker c.join_link-in-Link.result c.join_link-in-Link.ensures
     (λ _ raised. take_link a.ops a.bit m c.args.states.now c.args.nets.now c.args.device.now
     c.requires.nets.0.distinct c.requires.states.1 c.requires.may.1 c.requires.sure.1 conducts formed.2.0.stays surely
-    c.in-Link.p c.in-Link.q c.in-Link.ensures c.in-ok-join-link.ensures raised)
+    c.in-Link.p c.in-Link.q c.in-Link.ensures c.in_ok-join_link.ensures raised)
     (λ _ spent. spent)
 
-pub returns-in-ok-join-cell-2 : goal.returns-in-ok-join-cell-2
-returns-in-ok-join-cell-2 g c =
+pub returns-in_ok-join_cell-2 : goal.returns-in_ok-join_cell-2
+returns-in_ok-join_cell-2 g c =
     let a = g.A.ChainAlgebra in
     let m = a.meaning c.args.alg.now in
-    let formed = c.in-ok-surely.ensures in
+    let formed = c.in_ok-surely.ensures in
     let first = formed.2.0.stays in
-    let second = c.in-ok-one.ensures.0.stays in
-    let raised = c.in-ok-join-cell.ensures in
-    let third = c.in-ok-zero.ensures.0.stays in
+    let second = c.in_ok-one.ensures.0.stays in
+    let raised = c.in_ok-join_cell.ensures in
+    let third = c.in_ok-zero.ensures.0.stays in
     let reached = c.in-Drive.ensures in
-    let source = c.state-at-source.result in
+    let source = c.state_at-source.result in
     let low = end_numbered c.args.device.now _ c.in-Drive.source c.requires.nets.1 reached.1 in
     let conducts = marks_may a.bit m c.args.states.now c.requires.states.0 c.requires.states.1 c.args.device.now c.requires.nets.1
-    c.conducts-at-opens.result c.conducts-at-opens.ensures _ _ c.place-of.ensures.is c.index-states-place-of.is in
+    c.conducts_at-opens.result c.conducts_at-opens.ensures _ _ c.place_of.ensures.is c.index-states-place_of.is in
     let surely = marks_sure a.bit m c.args.states.now c.requires.states.0 c.requires.states.1 c.args.device.now c.requires.nets.1
-    c.conducts-at-opens.result c.conducts-at-opens.ensures _ _ _ formed.0 c.place-of-2.ensures.is c.index-states-place-of-2.is
+    c.conducts_at-opens.result c.conducts_at-opens.ensures _ _ _ formed.0 c.place_of-2.ensures.is c.index-states-place_of-2.is
     formed.1 formed.2.1 in
     let may1 = marks_state a.bit m c.args.states.now c.requires.states.0 c.requires.states.1
-    c.in-Drive.source true source.may1 low (c.state-at-source.ensures true source.may1) in
+    c.in-Drive.source true source.may1 low (c.state_at-source.ensures true source.may1) in
     let may0 = marks_state a.bit m c.args.states.now c.requires.states.0 c.requires.states.1
-    c.in-Drive.source false source.may0 low (c.state-at-source.ensures false source.may0) in
+    c.in-Drive.source false source.may0 low (c.state_at-source.ensures false source.may0) in
     let till = stays_then first (stays_then second raised.stays) in
-    MatchResult-weaker c.join-cell-in-Drive-2.result c.join-cell-in-Drive-2.ensures
+    MatchResult-weaker c.join_cell-in-Drive-2.result c.join_cell-in-Drive-2.ensures
     (λ _ last. take_drive a.ops a.bit m c.args.states.now c.args.nets.now c.args.device.now
     c.requires.nets.0.distinct c.requires.states.1 c.requires.may.1 c.requires.sure.1 conducts first surely c.in-Drive.p c.in-Drive.source reached
-    second (marks_meet c.requires.boolean (marks_stay first conducts) (marks_stay first may1) c.in-ok-one.ensures.1) raised
-    third (marks_meet c.requires.boolean (marks_stay till conducts) (marks_stay till may0) c.in-ok-zero.ensures.1)
-    c.in-ok-join-cell-2.ensures last)
+    second (marks_meet c.requires.boolean (marks_stay first conducts) (marks_stay first may1) c.in_ok-one.ensures.1) raised
+    third (marks_meet c.requires.boolean (marks_stay till conducts) (marks_stay till may0) c.in_ok-zero.ensures.1)
+    c.in_ok-join_cell-2.ensures last)
     (λ _ spent. spent)
 
 pub returns-in-Loop : goal.returns-in-Loop
@@ -136,8 +136,8 @@ returns-in-Loop g c =
     let nets = c.args.nets.now in
     let device = c.args.device.now in
     take_idle a.ops a.bit (a.meaning c.args.alg.now) c.args.states.now nets device
-    c.requires.nets.0.distinct c.requires.states.1 c.requires.may.1 c.requires.sure.1 c.in-ok-surely.ensures.2.0.stays
+    c.requires.nets.0.distinct c.requires.states.1 c.requires.may.1 c.requires.sure.1 c.in_ok-surely.ensures.2.0.stays
     (⊎_elim
-    (λ e. inl (subst (Reached nets device) e c.reach-of-reach.ensures))
-    (λ e. inr (subst (Reached nets device) e c.reach-of-reach.ensures))
+    (λ e. inl (subst (Reached nets device) e c.reach_of-reach.ensures))
+    (λ e. inr (subst (Reached nets device) e c.reach_of-reach.ensures))
     c.in-Loop.is)

@@ -13,20 +13,20 @@ module _ (g : Over) (c : In-Some g) where
   before = c.args.reader.now.lines
 
   abbrev past : Lines
-  past = c.next-line.new.self
+  past = c.next_line.new.self
 
   took : LineAt before.text.now before.pos before.line c.in-Some.line past.pos
-  took = (taken before.text.now before.pos before.line c.in-ok-line.field-0 c.in-Some.line past.pos past.line c.in-Some.is c.in-ok-line.ensures.gives).0
+  took = (taken before.text.now before.pos before.line c.in_ok-line.field-0 c.in-Some.line past.pos past.line c.in-Some.is c.in_ok-line.ensures.gives).0
 
-pub returns-in-err-first-word : goal.returns-in-err-first-word
-returns-in-err-first-word g c =
-    let w = (goal.at.returns-in-err-first-word g c).In-Some in
+pub returns-in_err-first_word : goal.returns-in_err-first_word
+returns-in_err-first_word g c =
+    let w = (goal.at.returns-in_err-first_word g c).In-Some in
     let b = before g w in
     let line = c.in-Some.line in
     let f = g.B.Body.format in
-    let p = err_from_is_err_and c.from-residual-in-err-first-word.result c.from-residual-in-err-first-word.ensures.1 in
+    let p = err_from_is_err_and c.from_residual-in_err-first_word.result c.from_residual-in_err-first_word.ensures.1 in
     p.1 ∙ sym (word_unknown f b.text.now b.pos b.line line (past g w).pos (took g w) p.0
-    (ap Err p.2 ∙ c.in-err-first-word.ensures.word ∙ ap (leading_word f line.number line.start) c.fields-fields.ensures))
+    (ap Err p.2 ∙ c.in_err-first_word.ensures.word ∙ ap (leading_word f line.number line.start) c.fields-fields.ensures))
 
 pub returns : goal.returns
 returns g c =
@@ -35,5 +35,5 @@ returns g c =
     let line = c.in-Some.line in
     let f = g.B.Body.format in
     ap Err c.fault.ensures
-    ∙ sym (word_late f b.text.now b.pos b.line line (past g w).pos (took g w) c.in-ok-first-word.field-0
-    (c.in-ok-first-word.ensures.word ∙ ap (leading_word f line.number line.start) c.fields-fields.ensures))
+    ∙ sym (word_late f b.text.now b.pos b.line line (past g w).pos (took g w) c.in_ok-first_word.field-0
+    (c.in_ok-first_word.ensures.word ∙ ap (leading_word f line.number line.start) c.fields-fields.ensures))

@@ -19,10 +19,10 @@ returns g c =
     let cleared = circuit_of g.B.Body.items c.clear.new.self in
     let start : goes_on f c.new-reader.result cleared ≡ up_to_end f text =
     (λ i. lines_read f (new.3 i) (c.clear.ensures i) (new.2 i) (new.1 i) (lines_from (new.0 i) (new.1 i)))
-    ∙ sym (cond-true (leb (length text) 32768) (lines_read f Opening blank 1 0 (lines_from text 0)) (Err (fault TextTooLong 0 0)) (le-leb (length text) 32768 c.in-ok-sized.ensures)) in
-    let d = circuit_of g.B.Body.items c.read-to-end.new.netlist in
+    ∙ sym (cond-true (leb (length text) 32768) (lines_read f Opening blank 1 0 (lines_from text 0)) (Err (fault TextTooLong 0 0)) (le-leb (length text) 32768 c.in_ok-sized.ensures)) in
+    let d = circuit_of g.B.Body.items c.read_to_end.new.netlist in
     record {
-      kept = every_made c.finish.result _ c.in-ok-read-to-end.ensures.kept;
+      kept = every_made c.finish.result _ c.in_ok-read_to_end.ensures.kept;
       gives = subst (λ q. FromEnd f q (ok_with c.finish.result d)) start
-          (whole f (goes_on f c.new-reader.result cleared) c.finish.result d c.read-to-end.new.reader.lines c.in-ok-read-to-end.ensures.gives c.finish.ensures);
+          (whole f (goes_on f c.new-reader.result cleared) c.finish.result d c.read_to_end.new.reader.lines c.in_ok-read_to_end.ensures.gives c.finish.ensures);
     }

@@ -17,42 +17,42 @@ module _ (g : Over) (c : In-Some g) where
   before = c.loop-line.reader.lines
 
   abbrev past : Lines
-  past = c.next-line.new.self
+  past = c.next_line.new.self
 
   took : LineAt before.text.now before.pos before.line c.in-Some.line past.pos × (past.line ≡ before.line + 1)
-  took = taken before.text.now before.pos before.line c.in-ok-line.field-0 c.in-Some.line past.pos past.line c.in-Some.is c.in-ok-line.ensures.gives
+  took = taken before.text.now before.pos before.line c.in_ok-line.field-0 c.in-Some.line past.pos past.line c.in-Some.is c.in_ok-line.ensures.gives
 
   -- what is left of the text after the line
   left : lines_left past ≡ lines_from before.text.now past.pos
-  left = ap (λ t. lines_from t past.pos) c.in-ok-line.ensures.same
+  left = ap (λ t. lines_from t past.pos) c.in_ok-line.ensures.same
 
-pub returns-in-err-item : goal.returns-in-err-item
-returns-in-err-item g c =
-    let w = (goal.at.returns-in-err-item g c).In-Some in
+pub returns-in_err-item : goal.returns-in_err-item
+returns-in_err-item g c =
+    let w = (goal.at.returns-in_err-item g c).In-Some in
     let b = before g w in
     let f = g.B.Body.format in
     let so_far = circuit_of g.B.Body.items c.loop-line.netlist in
-    let p = err_from_is_err_and c.from-residual-in-err-item.result c.from-residual-in-err-item.ensures.1 in
+    let p = err_from_is_err_and c.from_residual-in_err-item.result c.from_residual-in_err-item.ensures.1 in
     record {
-      kept = none_made c.from-residual-in-err-item.result p.0 _ p.1;
-      gives = subst (λ q. UpTo f q c.from-residual-in-err-item.result so_far c.record.new.self.lines)
-          (sym (sym c.loop-line.invariant ∙ record_declined f b.text.now b.pos b.line c.in-Some.line (past g w).pos (took g w).0 c.loop-line.reader.stage so_far p.0 (ap Err p.2 ∙ c.in-err-item.ensures.gives)))
+      kept = none_made c.from_residual-in_err-item.result p.0 _ p.1;
+      gives = subst (λ q. UpTo f q c.from_residual-in_err-item.result so_far c.record.new.self.lines)
+          (sym (sym c.loop-line.invariant ∙ record_declined f b.text.now b.pos b.line c.in-Some.line (past g w).pos (took g w).0 c.loop-line.reader.stage so_far p.0 (ap Err p.2 ∙ c.in_err-item.ensures.gives)))
           p.1;
     }
 
-pub returns-in-err-add : goal.returns-in-err-add
-returns-in-err-add g c =
-    let w = (goal.at.returns-in-err-add g c).In-Some in
+pub returns-in_err-add : goal.returns-in_err-add
+returns-in_err-add g c =
+    let w = (goal.at.returns-in_err-add g c).In-Some in
     let b = before g w in
     let f = g.B.Body.format in
     let so_far = circuit_of g.B.Body.items c.loop-line.netlist in
-    let e = plain g.B.Body.shown c.in-ok-item.item in
-    let p = err_from_is_err_and c.from-residual-in-err-add.result c.from-residual-in-err-add.ensures.1 in
+    let e = plain g.B.Body.shown c.in_ok-item.item in
+    let p = err_from_is_err_and c.from_residual-in_err-add.result c.from_residual-in_err-add.ensures.1 in
     record {
-      kept = none_made c.from-residual-in-err-add.result p.0 _ p.1;
-      gives = subst (λ q. UpTo f q c.from-residual-in-err-add.result (circuit_of g.B.Body.items c.add.new.self) c.record.new.self.lines)
+      kept = none_made c.from_residual-in_err-add.result p.0 _ p.1;
+      gives = subst (λ q. UpTo f q c.from_residual-in_err-add.result (circuit_of g.B.Body.items c.add.new.self) c.record.new.self.lines)
           (sym (sym c.loop-line.invariant ∙ add_declined f b.text.now b.pos b.line c.in-Some.line (past g w).pos (took g w).0 c.loop-line.reader.stage so_far c.record.new.self.stage e
-          c.in-ok-item.ensures.gives p.0 (ap Err p.2 ∙ c.in-err-add.ensures)))
+          c.in_ok-item.ensures.gives p.0 (ap Err p.2 ∙ c.in_err-add.ensures)))
           p.1;
     }
 
@@ -62,16 +62,16 @@ returns-then-closed g c =
     let b = before g w in
     let f = g.B.Body.format in
     let so_far = circuit_of g.B.Body.items c.loop-line.netlist in
-    let e = plain g.B.Body.shown c.in-ok-item.item in
+    let e = plain g.B.Body.shown c.in_ok-item.item in
     let d = circuit_of g.B.Body.items c.add.new.self in
     let at = (took g w).0 in
-    let same = c.in-ok-item.ensures.same in
+    let same = c.in_ok-item.ensures.same in
     let closes = c.close.ensures.found in
     record {
       kept = subst (λ x. IfOk c.close.result (λ _. g.B.Body.Kept c.close.new.self.body x)) (sym c.close.ensures.same) c.close.ensures.kept;
       gives = subst (λ q. UpTo f q c.close.result (circuit_of g.B.Body.items c.close.new.self) c.record.new.self.lines)
           (sym (sym c.loop-line.invariant ∙ end_done f b.text.now b.pos b.line c.in-Some.line (past g w).pos at c.loop-line.reader.stage so_far c.record.new.self.stage e
-          c.in-ok-item.ensures.gives d c.in-ok-add.ensures c.if_closed_lem.ensures)) (
+          c.in_ok-item.ensures.gives d c.in_ok-add.ensures c.if_closed_lem.ensures)) (
             closes.0,
             closes.1,
             closes.2 ∙ (λ i. answered closes.0 (at.number i) (at.start i)),
@@ -91,10 +91,10 @@ loop-line-preserved g c =
     let f = g.B.Body.format in
     let so_far = circuit_of g.B.Body.items c.loop-line.netlist in
     let t = c.record.new.self.stage in
-    let e = plain g.B.Body.shown c.in-ok-item.item in
+    let e = plain g.B.Body.shown c.in_ok-item.item in
     let d = circuit_of g.B.Body.items c.add.new.self in
-    ap (λ (l : Lines). lines_read f t d l.line l.pos (lines_left l)) c.in-ok-item.ensures.same
+    ap (λ (l : Lines). lines_read f t d l.line l.pos (lines_left l)) c.in_ok-item.ensures.same
     ∙ (λ i. lines_read f t d ((took g w).1 i) (past g w).pos (left g w i))
     ∙ sym (line_done f b.text.now b.pos b.line c.in-Some.line (past g w).pos (took g w).0 c.loop-line.reader.stage so_far t e
-    c.in-ok-item.ensures.gives d c.in-ok-add.ensures c.if_closed_lem.ensures)
+    c.in_ok-item.ensures.gives d c.in_ok-add.ensures c.if_closed_lem.ensures)
     ∙ c.loop-line.invariant

@@ -14,23 +14,23 @@ use Rattle.records.proofs.devices.read_device.Goals as goal
 counted : (l : Line) (k : DeviceKind) (fs : Fields) → three l.number l.start k (fields_left fs) ≡ map_ok (λ xs. (k, xs)) (nets_counted (device_takes k) l.number l.start (fields_left fs))
 counted l k fs = three_counted l.number l.start k (fields_left fs)
 
-pub returns-in-err-gate : goal.returns-in-err-gate
-returns-in-err-gate c =
-    let m : map_ok device_shown c.from-residual.result ≡ three c.args.line.now.number c.args.line.now.start c.args.kind (fields_left c.args.fields) = search rules in
+pub returns-in_err-gate : goal.returns-in_err-gate
+returns-in_err-gate c =
+    let m : map_ok device_shown c.from_residual.result ≡ three c.args.line.now.number c.args.line.now.start c.args.kind (fields_left c.args.fields) = search rules in
     m ∙ counted c.args.line.now c.args.kind c.args.fields
 
-pub returns-in-err-left : goal.returns-in-err-left
-returns-in-err-left c =
-    let m : map_ok device_shown c.from-residual-in-err-left.result ≡ three c.args.line.now.number c.args.line.now.start c.args.kind (fields_left c.args.fields) = search rules in
+pub returns-in_err-left : goal.returns-in_err-left
+returns-in_err-left c =
+    let m : map_ok device_shown c.from_residual-in_err-left.result ≡ three c.args.line.now.number c.args.line.now.start c.args.kind (fields_left c.args.fields) = search rules in
     m ∙ counted c.args.line.now c.args.kind c.args.fields
 
-pub returns-in-err-right : goal.returns-in-err-right
-returns-in-err-right c =
-    let m : map_ok device_shown c.from-residual-in-err-right.result ≡ three c.args.line.now.number c.args.line.now.start c.args.kind (fields_left c.args.fields) = search rules in
+pub returns-in_err-right : goal.returns-in_err-right
+returns-in_err-right c =
+    let m : map_ok device_shown c.from_residual-in_err-right.result ≡ three c.args.line.now.number c.args.line.now.start c.args.kind (fields_left c.args.fields) = search rules in
     m ∙ counted c.args.line.now c.args.kind c.args.fields
 
 pub returns : goal.returns
 returns c =
-    let d : DeviceRecord = record { kind = c.args.kind; gate = c.in-ok-gate.gate; left = c.in-ok-left.left; right = c.in-ok-right.right } in
+    let d : DeviceRecord = record { kind = c.args.kind; gate = c.in_ok-gate.gate; left = c.in_ok-left.left; right = c.in_ok-right.right } in
     let m : map_ok device_shown (Ok d) ≡ three c.args.line.now.number c.args.line.now.start c.args.kind (fields_left c.args.fields) = search rules in
     m ∙ counted c.args.line.now c.args.kind c.args.fields

@@ -4,8 +4,8 @@ use Rattle.station.proofs.Overwriting.{one_digit, more_digits, Written, none_yet
 use Rattle.station.proofs.page.+put_digits.Goals as goal
 use Rattle.station.proofs.page.+put_digits.Goals.{Joined-n-lt10, then-n-lt10, else-n-lt10}
 
-pub put-digits-last-requires : goal.put-digits-last-requires
-put-digits-last-requires t c = (omega arith, omega (arith, more_digits c.args.n c.if-n-lt10.false (omega arith)))
+pub put_digits-last-requires : goal.put_digits-last-requires
+put_digits-last-requires t c = (omega arith, omega (arith, more_digits c.args.n c.if-n-lt10.false (omega arith)))
 
 -- the digits before the last, and where it goes
 pub record Before (page : List ℕ) (at n : ℕ) (p : List ℕ) (last : ℕ) : Type 0 where
@@ -28,7 +28,7 @@ before t c =
           record {
             digits = decimal (n / 10);
             all = sym (decimal_step n many (omega arith));
-            written = record { page_is = w.page_is ∙ w.put-digits-last.ensures.page; last_is = w.last_is ∙ w.put-digits-last.ensures.value };
+            written = record { page_is = w.page_is ∙ w.put_digits-last.ensures.page; last_is = w.last_is ∙ w.put_digits-last.ensures.value };
             room = omega (arith, c.requires, more_digits n many (omega arith));
           }
     ]
@@ -39,8 +39,8 @@ done t c = let b = before t c in written_as (byte_more b.written b.room (48 + c.
 pub bounds-page-last : goal.bounds-page-last
 bounds-page-last t c = let b = before t c in omega (arith, b.written.last_is, b.room, c.if-n-lt10.auto.page)
 
-pub overflow-add-result : goal.overflow-add-result
-overflow-add-result t c = let d = done t (goal.at.overflow-add-result t c).Joined-n-lt10 in omega (arith, d.last_is, c.requires)
+pub overflow_add-result : goal.overflow_add-result
+overflow_add-result t c = let d = done t (goal.at.overflow_add-result t c).Joined-n-lt10 in omega (arith, d.last_is, c.requires)
 
 pub returns : goal.returns
 returns t c = let d = done t (goal.at.returns t c).Joined-n-lt10 in record { value = d.last_is; page = d.page_is }

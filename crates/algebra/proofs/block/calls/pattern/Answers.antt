@@ -17,5 +17,5 @@ returns-in-3 c = λ j below. rw c.in-3.is (column_bits 64 _ 3 j refl below)
 pub returns-in-4 : goal.returns-in-4
 returns-in-4 c = λ j below. rw c.in-4.is (column_bits 64 _ 4 j refl below)
 
-pub returns-in-default : goal.returns-in-default
-returns-in-default c = let last : c.args.p ≡ 5 = omega arith in λ j below. rw last (column_bits 64 _ 5 j refl below)
+pub returns-in_default : goal.returns-in_default
+returns-in_default c = let last : c.args.p ≡ 5 = omega arith in λ j below. rw last (column_bits 64 _ 5 j refl below)

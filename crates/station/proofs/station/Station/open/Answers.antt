@@ -1,5 +1,5 @@
 use Rattle.station.proofs.Soundness.{sound_nothing}
 use Rattle.station.proofs.station.Station.open.Goals as goal
 
-pub invariant-of-result : goal.invariant-of-result
-invariant-of-result c = (sound_nothing c.empty-drawn.result c.empty-drawn.ensures, tt)
+pub invariant_of-result : goal.invariant_of-result
+invariant_of-result c = (sound_nothing c.empty-drawn.result c.empty-drawn.ensures, tt)

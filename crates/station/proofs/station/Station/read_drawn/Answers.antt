@@ -25,13 +25,13 @@ returns c =
       gives = c.read.ensures.gives;
       other = refl;
       order = made_so c.read.result (Ordered s.current.body (circuit_of devices_of s.current)) _ (of-held s) c.read.ensures.kept;
-      same-order = refused_so c.read.result (s.current ≡ c.args.self.now.drawn.current) _ (ap (λ (n : Netlist Devices). order_of n.body.order)) c.read.ensures.same;
+      same_order = refused_so c.read.result (s.current ≡ c.args.self.now.drawn.current) _ (ap (λ (n : Netlist Devices). order_of n.body.order)) c.read.ensures.same;
       law = done_exactly drawn_format c.args.text.now (holds devices_of c.args.self.now.drawn) c.read.result (holds devices_of c.read.new.self) (drawn_exactly c.args.text.now) (drawn_one_way c.args.text.now) c.read.ensures.gives;
       exactly = drawn_exactly c.args.text.now;
       one_way = drawn_one_way c.args.text.now;
     }
 
-pub invariant-of-self : goal.invariant-of-self
-invariant-of-self c =
+pub invariant_of-self : goal.invariant_of-self
+invariant_of-self c =
     let read = c.read.ensures in
     (sound_read c.args.text.now c.args.self.now.drawn c.read.new.self c.read.result c.args.self.now.sound read.gives read.kept read.same read.still, tt)

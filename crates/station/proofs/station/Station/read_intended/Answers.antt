@@ -10,7 +10,7 @@ pub returns : goal.returns
 returns c = record {
   gives = c.read.ensures.gives;
   other = refl;
-  same-order = refl;
+  same_order = refl;
   law = done_exactly intended_format c.args.text.now (holds gates_of c.args.self.now.intended) c.read.result (holds gates_of c.read.new.self) (intended_exactly c.args.text.now) (intended_one_way c.args.text.now) c.read.ensures.gives;
   exactly = intended_exactly c.args.text.now;
   one_way = intended_one_way c.args.text.now;

@@ -11,27 +11,27 @@ pub returns-in-Err : goal.returns-in-Err
 returns-in-Err c =
     let e = c.in-Err.ensures in
     let f = c.in-Err.fault in
-    let after : held c.args.self.now ≡ held c.read-drawn.new.self = λ i. record { drawn = sym e.gives.1 i; intended = sym e.other i } in
+    let after : held c.args.self.now ≡ held c.read_drawn.new.self = λ i. record { drawn = sym e.gives.1 i; intended = sym e.other i } in
     subst (PairRead c.args.drawn.now c.args.intended.now (held c.args.self.now) (Err (record { origin = Drawn; fault = f }))) after (drawn_declined f e.gives.0)
 
-pub returns-in-Err-read-intended : goal.returns-in-Err-read-intended
-returns-in-Err-read-intended c =
+pub returns-in-Err-read_intended : goal.returns-in-Err-read_intended
+returns-in-Err-read_intended c =
     let d = c.in-Ok.ensures in
-    let e = c.in-Err-read-intended.ensures in
-    let f = c.in-Err-read-intended.fault in
+    let e = c.in-Err-read_intended.ensures in
+    let f = c.in-Err-read_intended.fault in
     let x = d.gives.0 in
     let before = held c.args.self.now in
     let left : Held = record { drawn = Some x; intended = before.intended } in
-    let after : left ≡ held c.read-intended.new.self = λ i. record { drawn = sym (e.other ∙ d.gives.2) i; intended = sym (e.gives.1 ∙ d.other) i } in
+    let after : left ≡ held c.read_intended.new.self = λ i. record { drawn = sym (e.other ∙ d.gives.2) i; intended = sym (e.gives.1 ∙ d.other) i } in
     subst (PairRead c.args.drawn.now c.args.intended.now before (Err (record { origin = Intended; fault = f }))) after (intended_declined x f d.gives.1 e.gives.0)
 
-pub returns-in-Ok-read-intended : goal.returns-in-Ok-read-intended
-returns-in-Ok-read-intended c =
+pub returns-in-Ok-read_intended : goal.returns-in-Ok-read_intended
+returns-in-Ok-read_intended c =
     let d = c.in-Ok.ensures in
-    let e = c.in-Ok-read-intended.ensures in
+    let e = c.in-Ok-read_intended.ensures in
     let x = d.gives.0 in
     let y = e.gives.0 in
-    let s = c.read-intended.new.self in
+    let s = c.read_intended.new.self in
     let before = held c.args.self.now in
     let drawn-is : holds devices_of s.drawn ≡ Some x = e.other ∙ d.gives.2 in
     let given : Held = record { drawn = Some x; intended = Some y } in

@@ -19,21 +19,21 @@ returns-then-signs-lt-WORK c = record {
   ranges = tt;
 }
 
-pub returns-then-net-gt-LAST-NET : goal.returns-then-net-gt-LAST-NET
-returns-then-net-gt-LAST-NET c = record {
-  gives = above_nets _ _ _ _ c.args.self.now.drawn c.if-not-self.false (omega (arith, c.if-signs-lt-WORK.false)) c.if-net-gt-LAST-NET.true c.new-then-net-gt-LAST-NET.result c.new-then-net-gt-LAST-NET.ensures;
+pub returns-then-net-gt-LAST_NET : goal.returns-then-net-gt-LAST_NET
+returns-then-net-gt-LAST_NET c = record {
+  gives = above_nets _ _ _ _ c.args.self.now.drawn c.if-not-self.false (omega (arith, c.if-signs-lt-WORK.false)) c.if-net-gt-LAST_NET.true c.new-then-net-gt-LAST_NET.result c.new-then-net-gt-LAST_NET.ensures;
   held = tt;
   inputs = tt;
   ranges = tt;
 }
 
-pub overflow-cast-result : goal.overflow-cast-result
-overflow-cast-result c = omega (arith, ap length c.ins.ensures, (usable c.args.self.now.drawn c.args.self.now.sound c.if-not-self.false).few)
+pub overflow_cast-result : goal.overflow_cast-result
+overflow_cast-result c = omega (arith, ap length c.ins.ensures, (usable c.args.self.now.drawn c.args.self.now.sound c.if-not-self.false).few)
 
 pub returns : goal.returns
 returns c = record {
-  gives = answered _ _ _ _ c.args.self.now.drawn c.if-not-self.false c.if-signs-lt-WORK.false c.if-net-gt-LAST-NET.false (length c.ins.result.now) tt (ap length c.ins.ensures);
+  gives = answered _ _ _ _ c.args.self.now.drawn c.if-not-self.false c.if-signs-lt-WORK.false c.if-net-gt-LAST_NET.false (length c.ins.result.now) tt (ap length c.ins.ensures);
   held = c.if-not-self.false;
   inputs = ap length c.ins.ensures;
-  ranges = (c.if-signs-lt-WORK.false, c.if-net-gt-LAST-NET.false);
+  ranges = (c.if-signs-lt-WORK.false, c.if-net-gt-LAST_NET.false);
 }

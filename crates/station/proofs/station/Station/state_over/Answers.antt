@@ -7,22 +7,22 @@ use Rattle.station.proofs.Usable.{usable}
 use Rattle.station.proofs.Probing.{read_state}
 use Rattle.station.proofs.station.Station.state_over.Goals as goal
 
-pub form-states-requires : goal.form-states-requires
-form-states-requires g c =
+pub form_states-requires : goal.form_states-requires
+form_states-requires g c =
     let facts = usable c.args.self.now.drawn c.args.self.now.sound c.requires.held in
     record {
       ins = subst Numbered (sym c.ins.ensures) facts.numbered;
-      devices = c.as-slice-devices.ensures.numbered;
+      devices = c.as_slice-devices.ensures.numbered;
       order = subst (λ o. Every Formable (order_of o)) (sym c.order-order.ensures) facts.formable;
-      states = omega (arith, c.split-at-mut-states.ensures.front-len);
-      may = omega (arith, c.split-at-mut-may.ensures.front-len);
-      sure = omega (arith, c.requires.work, c.split-at-mut-states.ensures.back_len, c.split-at-mut-may.ensures.back_len);
+      states = omega (arith, c.split_at_mut-states.ensures.front-len);
+      may = omega (arith, c.split_at_mut-may.ensures.front-len);
+      sure = omega (arith, c.requires.work, c.split_at_mut-states.ensures.back_len, c.split_at_mut-may.ensures.back_len);
     }
 
 pub returns : goal.returns
 returns g c =
-    read_state g.A.ChainAlgebra.bit (g.A.ChainAlgebra.meaning c.args.alg.now) (g.A.ChainAlgebra.meaning c.form-states.new.alg)
+    read_state g.A.ChainAlgebra.bit (g.A.ChainAlgebra.meaning c.args.alg.now) (g.A.ChainAlgebra.meaning c.form_states.new.alg)
     c.args.self.now.drawn c.args.self.now.sound c.requires.held
-    c.ins.result.now c.as-slice-devices.result.now c.order-order.result.now c.form-states.new.states
-    c.ins.ensures c.as-slice-devices.ensures.0 c.order-order.ensures c.requires.inputs c.in-ok-form-states.ensures
-    c.args.net c.state-at.result c.requires.net c.state-at.ensures
+    c.ins.result.now c.as_slice-devices.result.now c.order-order.result.now c.form_states.new.states
+    c.ins.ensures c.as_slice-devices.ensures.0 c.order-order.ensures c.requires.inputs c.in_ok-form_states.ensures
+    c.args.net c.state_at.result c.requires.net c.state_at.ensures

@@ -1,5 +1,5 @@
 use Rattle.station.proofs.Soundness.{sound_nothing}
 use Rattle.station.proofs.station.Station.wipe.Goals as goal
 
-pub invariant-of-self : goal.invariant-of-self
-invariant-of-self c = (sound_nothing c.wipe.new.self c.wipe.ensures, tt)
+pub invariant_of-self : goal.invariant_of-self
+invariant_of-self c = (sound_nothing c.wipe.new.self c.wipe.ensures, tt)

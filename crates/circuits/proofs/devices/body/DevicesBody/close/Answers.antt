@@ -37,7 +37,7 @@ returns-in-Err c =
     let f = λ (name : List ℕ). of-held c.args.ins.now c.args.-outs.now name c.deref.result.now ds order (Err o) c.deref.ensures.value c.in-Err.ensures in
     let line = c.args.line.now in
     record {
-      found = λ name. (Some (reason_of o), declines (record { name = name; ins = c.args.ins.now; outs = c.args.-outs.now; body = ds }) order o (f name), ap Err (c.fault.ensures ∙ ap (λ w. fault w line.number line.start) c.reason-for.ensures));
+      found = λ name. (Some (reason_of o), declines (record { name = name; ins = c.args.ins.now; outs = c.args.-outs.now; body = ds }) order o (f name), ap Err (c.fault.ensures ∙ ap (λ w. fault w line.number line.start) c.reason_for.ensures));
       kept = λ name. tt;
       same = refl;
     }

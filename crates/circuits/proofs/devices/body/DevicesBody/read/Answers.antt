@@ -6,6 +6,6 @@ use Rattle.circuits.proofs.devices.body.DevicesBody.read.Goals as goal
 
 pub returns : goal.returns
 returns c = record {
-  gives = c.read-device.ensures;
-  proper = shown_proper drawn_format device_shown c.args.kind c.args.line.now.number c.args.line.now.start (fields_left c.args.fields) c.read-device.result c.read-device.ensures;
+  gives = c.read_device.ensures;
+  proper = shown_proper drawn_format device_shown c.args.kind c.args.line.now.number c.args.line.now.start (fields_left c.args.fields) c.read_device.result c.read_device.ensures;
 }

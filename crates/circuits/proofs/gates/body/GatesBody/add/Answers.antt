@@ -21,7 +21,7 @@ returns-in-Some c =
     let g = c.args.item.now in
     let room : length (gates_of b) < 64 = omega (arith, many b) in
     ap Err c.new.ensures
-    ∙ ap (pushed intended_format (gates_of b) c.args.line.now.number g.kind (net_list g.nets)) (c.in-Some.ensures ∙ ap (gate_barred c.args.ins.now (gates_of b)) c.as-slice-nets.ensures)
+    ∙ ap (pushed intended_format (gates_of b) c.args.line.now.number g.kind (net_list g.nets)) (c.in-Some.ensures ∙ ap (gate_barred c.args.ins.now (gates_of b)) c.as_slice-nets.ensures)
     ∙ sym (cond-false (leb 64 (length (gates_of b))) _ _ (lt-leb 64 (length (gates_of b)) room))
 
 pub returns : goal.returns
@@ -29,7 +29,7 @@ returns c =
     let b = c.args.self.now in
     let g = c.args.item.now in
     let room : length (gates_of b) < 64 = omega (arith, many b) in
-    ap Ok (ap (map gate_held) c.push-reserved.ensures.items ∙ map_push gate_held (vec_items b.gates) c.gate-of.result
-    ∙ ap (λ e. gates_of b ++ e ∷ []) (c.gate-of.ensures ∙ ap (λ xs. gate_from g.kind (values xs)) c.as-slice-nets.ensures))
-    ∙ ap (pushed intended_format (gates_of b) c.args.line.now.number g.kind (net_list g.nets)) (sym c.in-default.is ∙ c.barred.ensures ∙ ap (gate_barred c.args.ins.now (gates_of b)) c.as-slice-nets.ensures)
+    ap Ok (ap (map gate_held) c.push_reserved.ensures.items ∙ map_push gate_held (vec_items b.gates) c.gate_of.result
+    ∙ ap (λ e. gates_of b ++ e ∷ []) (c.gate_of.ensures ∙ ap (λ xs. gate_from g.kind (values xs)) c.as_slice-nets.ensures))
+    ∙ ap (pushed intended_format (gates_of b) c.args.line.now.number g.kind (net_list g.nets)) (sym c.in_default.is ∙ c.barred.ensures ∙ ap (gate_barred c.args.ins.now (gates_of b)) c.as_slice-nets.ensures)
     ∙ sym (cond-false (leb 64 (length (gates_of b))) _ _ (lt-leb 64 (length (gates_of b)) room))

@@ -6,6 +6,6 @@ use Rattle.circuits.proofs.gates.body.GatesBody.read.Goals as goal
 
 pub returns : goal.returns
 returns c = record {
-  gives = c.read-gate.ensures.gives;
-  proper = shown_proper intended_format gate_shown c.args.kind c.args.line.now.number c.args.line.now.start (fields_left c.args.fields) c.read-gate.result c.read-gate.ensures.gives;
+  gives = c.read_gate.ensures.gives;
+  proper = shown_proper intended_format gate_shown c.args.kind c.args.line.now.number c.args.line.now.start (fields_left c.args.fields) c.read_gate.result c.read_gate.ensures.gives;
 }
