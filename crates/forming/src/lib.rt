@@ -1,5 +1,6 @@
 // Forming the states of a drawn cell over any algebra of signals.
 #![tactic(auto)]
+
 mod component;
 pub mod signs;
 pub mod states;

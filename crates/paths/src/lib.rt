@@ -1,5 +1,6 @@
 // The path solver over any chain algebra.
 #![tactic(auto)]
+
 ghost use Rattle.std.specs.Prelude.{◌≡◌, ◌+◌, ◌*◌, ◌^◌, ◌<◌, ◌≤◌, true, ◌≢◌, length};
 ghost use Rattle.cell.specs.Lists.{Every};
 ghost use Rattle.paths.specs.Paths.{OneJoin};

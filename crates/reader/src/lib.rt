@@ -1,5 +1,6 @@
 // The reader of records: the lines of the text, and what was read last.
 #![tactic(auto)]
+
 ghost use Rattle.std.specs.Prelude.{◌≡◌, ◌≤◌, true, false, length};
 ghost use Rattle.text.specs.Outcomes.{ok_with};
 ghost use Rattle.records.specs.Records.{turned};

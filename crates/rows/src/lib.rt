@@ -1,5 +1,6 @@
 // The rows of a table of states: a setting's bits, a tab, and the letter of each state.
 #![tactic(auto)]
+
 ghost use Rattle.std.specs.Prelude.{◌≡◌, ◌≤◌, length, take, drop};
 ghost use Rattle.rows.specs.Rows.{letter_of, bits_of, Put};
 

@@ -26,7 +26,7 @@ loop-j-preserved g c =
           ran_at a.keeps _ a.meaning v.relax.new.alg v.relax.new.table v.alg-is v.table-is
           (row_turn a.keeps a.ops c.args.nets c.args.width c.args.k c.requires.pivot c.requires.wide c.requires.room
           c.args.i c.loop-j.j _ _ _ c.requires.row (omega arith) c.requires.other (omega arith) v.if-j-i.true
-          v.place_at.ensures.is c.place-via.ensures.is v.place-on.ensures.is c.loop-j.invariant (a.meaning v.relax.new.alg) v.relax.new.table v.in_ok-relax.ensures)
+          v.place-at.ensures.is c.place-via.ensures.is v.place-on.ensures.is c.loop-j.invariant (a.meaning v.relax.new.alg) v.relax.new.table v.in_ok-relax.ensures)
       | else-j-i v ↦
           ran_at a.keeps _ a.meaning c.loop-j.alg c.loop-j.table v.alg-is v.table-is
           (row_idle a.keeps a.ops c.args.nets c.args.width c.args.k c.args.i c.loop-j.j v.if-j-i.false c.loop-j.invariant)

@@ -8,7 +8,7 @@ pub returns-then-columns-eq0 : goal.returns-then-columns-eq0
 returns-then-columns-eq0 g c =
     let a = g.A.ChainAlgebra in
     record {
-      0 = solved_none a.keeps a.ops c.args.nets c.args.columns c.if-columns-eq0.true (a.meaning c.args.alg.now) c.args.table.now c.requires.hand;
+      solving = solved_none a.keeps a.ops c.args.nets c.args.columns c.if-columns-eq0.true (a.meaning c.args.alg.now) c.args.table.now c.requires.hand;
       one_join = one_join a.ops g.met.A.ChainAlgebra.laws;
     }
 
@@ -37,7 +37,7 @@ pub returns-in_err-eliminate_net : goal.returns-in_err-eliminate_net
 returns-in_err-eliminate_net g c =
     let a = g.A.ChainAlgebra in
     record {
-      0 = solving_err a.keeps a.ops c.args.nets c.args.columns _ (a.meaning c.eliminate_net.new.alg) _ c.eliminate_net.new.table _ c.from_residual.ensures.0
+      solving = solving_err a.keeps a.ops c.args.nets c.args.columns _ (a.meaning c.eliminate_net.new.alg) _ c.eliminate_net.new.table _ c.from_residual.ensures.0
           (nets_stopped a.keeps a.ops c.args.nets c.args.columns c.loop-k.k (omega arith) (omega arith) c.requires.room c.loop-k.invariant (a.meaning c.eliminate_net.new.alg) c.in_err-eliminate_net.ensures);
       one_join = one_join a.ops g.met.A.ChainAlgebra.laws;
     }
@@ -47,7 +47,7 @@ returns g c =
     let a = g.A.ChainAlgebra in
     let e : c.loop-k.k ≡ c.args.nets = omega arith in
     record {
-      0 = solved a.keeps a.ops c.args.nets c.args.columns g.met.A.ChainAlgebra.laws c.requires.room c.loop-k.auto.table
+      solving = solved a.keeps a.ops c.args.nets c.args.columns g.met.A.ChainAlgebra.laws c.requires.room c.loop-k.auto.table
           (subst (λ n. Ran a.keeps (eliminating a.ops c.args.nets c.args.columns n) (a.meaning c.args.alg.now) (a.meaning c.loop-k.alg) c.args.table.now c.loop-k.table) e c.loop-k.invariant);
       one_join = one_join a.ops g.met.A.ChainAlgebra.laws;
     }

@@ -71,7 +71,7 @@ returns-then-closed g c =
       kept = subst (λ x. IfOk c.close.result (λ _. g.B.Body.Kept c.close.new.self.body x)) (sym c.close.ensures.same) c.close.ensures.kept;
       gives = subst (λ q. UpTo f q c.close.result (circuit_of g.B.Body.items c.close.new.self) c.record.new.self.lines)
           (sym (sym c.loop-line.invariant ∙ end_done f b.text.now b.pos b.line c.in-Some.line (past g w).pos at c.loop-line.reader.stage so_far c.record.new.self.stage e
-          c.in_ok-item.ensures.gives d c.in_ok-add.ensures c.if_closed_lem.ensures)) (
+          c.in_ok-item.ensures.gives d c.in_ok-add.ensures c.if-closed.ensures)) (
             closes.0,
             closes.1,
             closes.2 ∙ (λ i. answered closes.0 (at.number i) (at.start i)),
@@ -96,5 +96,5 @@ loop-line-preserved g c =
     ap (λ (l : Lines). lines_read f t d l.line l.pos (lines_left l)) c.in_ok-item.ensures.same
     ∙ (λ i. lines_read f t d ((took g w).1 i) (past g w).pos (left g w i))
     ∙ sym (line_done f b.text.now b.pos b.line c.in-Some.line (past g w).pos (took g w).0 c.loop-line.reader.stage so_far t e
-    c.in_ok-item.ensures.gives d c.in_ok-add.ensures c.if_closed_lem.ensures)
+    c.in_ok-item.ensures.gives d c.in_ok-add.ensures c.if-closed.ensures)
     ∙ c.loop-line.invariant
