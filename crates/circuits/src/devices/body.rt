@@ -47,7 +47,7 @@ impl Devices {
     }
 
     pub fn as_slice(&self) -> &[Device]
-        ensures result_value { result.now ≡ devices_of self.now }
+        ensures items { result.now ≡ devices_of self.now }
         ensures numbered { Every (λ d. Numbered (device_nets d)) result.now }
     {
         self.devices.as_slice()

@@ -7,6 +7,6 @@ use Rattle.circuits.proofs.devices.Devices.as_slice.Goals as goal
 
 pub returns : goal.returns
 returns c = record {
-  0 = c.as_slice.ensures.value;
+  items = c.as_slice.ensures.value;
   numbered = subst (Every (λ d. Numbered (device_nets d))) (sym c.as_slice.ensures.value) (all_numbered (devices_of c.args.self.now) c.args.self.now.numbered);
 }

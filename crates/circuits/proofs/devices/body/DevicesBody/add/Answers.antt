@@ -9,7 +9,8 @@ pub invariant_of-self : goal.invariant_of-self
 invariant_of-self c =
     let item = c.args.item.now in
     let d : Device = record { kind = item.kind; gate = item.gate.value; left = item.left.value; right = item.right.value } in
-    let b = c.args.self.now in (
-      omega (arith, c.push_reserved.ensures.capacity, b.room),
-      (subst (λ ds. all_of on_nets ds ≡ true) (sym c.push_reserved.ensures.items) (one_more on_nets (vec_items b.devices) d b.numbered (on_nets_lem d c.requires.numbers)), tt),
-    )
+    let b = c.args.self.now in
+    record {
+      room = omega (arith, c.push_reserved.ensures.capacity, b.room);
+      numbered = subst (λ ds. all_of on_nets ds ≡ true) (sym c.push_reserved.ensures.items) (one_more on_nets (vec_items b.devices) d b.numbered (on_nets_lem d c.requires.numbers));
+    }

@@ -21,7 +21,7 @@ of-held ins outs name given held order r e h = subst (λ ds. Found (record { nam
 
 pub returns-in-Ok : goal.returns-in-Ok
 returns-in-Ok c =
-    let f = λ (name : List ℕ). of-held c.args.ins.now c.args.-outs.now name c.deref.result.now (vec_items c.args.self.now.devices) (order_of c.find.new.self) (Ok tt) c.deref.ensures.value c.in-Ok.ensures in
+    let f = λ (name : List ℕ). of-held c.args.ins.now c.args._outs.now name c.deref.result.now (vec_items c.args.self.now.devices) (order_of c.find.new.self) (Ok tt) c.deref.ensures.value c.in-Ok.ensures in
     record { found = λ name. (None, sound (f name).1 (f name).2, refl); kept = λ name. (f name).0; same = refl }
 
 -- why there is none
@@ -34,10 +34,10 @@ returns-in-Err c =
     let o = c.in-Err.obstacle in
     let order = order_of c.find.new.self in
     let ds = vec_items c.args.self.now.devices in
-    let f = λ (name : List ℕ). of-held c.args.ins.now c.args.-outs.now name c.deref.result.now ds order (Err o) c.deref.ensures.value c.in-Err.ensures in
+    let f = λ (name : List ℕ). of-held c.args.ins.now c.args._outs.now name c.deref.result.now ds order (Err o) c.deref.ensures.value c.in-Err.ensures in
     let line = c.args.line.now in
     record {
-      found = λ name. (Some (reason_of o), declines (record { name = name; ins = c.args.ins.now; outs = c.args.-outs.now; body = ds }) order o (f name), ap Err (c.fault.ensures ∙ ap (λ w. fault w line.number line.start) c.reason_for.ensures));
+      found = λ name. (Some (reason_of o), declines (record { name = name; ins = c.args.ins.now; outs = c.args._outs.now; body = ds }) order o (f name), ap Err (c.fault.ensures ∙ ap (λ w. fault w line.number line.start) c.reason_for.ensures));
       kept = λ name. tt;
       same = refl;
     }
