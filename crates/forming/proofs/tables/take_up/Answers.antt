@@ -33,7 +33,7 @@ join_link-requires g c =
 pub join_link-requires-in-Link : goal.join_link-requires-in-Link
 join_link-requires-in-Link g c =
     let formed = c.in_ok-surely.ensures in
-    let raised = c.in_ok-join_link.ensures in
+    let raised = c.in_ok-join_link-in-Link.ensures in
     record {
       boolean = c.requires.boolean;
       one = c.in-Link.ensures.0;
@@ -47,7 +47,7 @@ join_link-requires-in-Link g c =
 pub join_cell-requires : goal.join_cell-requires
 join_cell-requires g c =
     let formed = c.in_ok-surely.ensures in
-    let one = c.in_ok-one.ensures in
+    let one = c.in_ok-one-in-Drive.ensures in
     record {
       boolean = c.requires.boolean;
       row = c.in-Drive.ensures.0;
@@ -59,8 +59,8 @@ join_cell-requires g c =
 
 pub join_cell-requires-in-Drive : goal.join_cell-requires-in-Drive
 join_cell-requires-in-Drive g c =
-    let raised = c.in_ok-join_cell.ensures in
-    let zero = c.in_ok-zero.ensures in
+    let raised = c.in_ok-join_cell-in-Drive.ensures in
+    let zero = c.in_ok-zero-in-Drive.ensures in
     record {
       boolean = c.requires.boolean;
       row = c.in-Drive.ensures.0;
@@ -73,8 +73,8 @@ join_cell-requires-in-Drive g c =
 pub join_cell-requires-in-Drive-2 : goal.join_cell-requires-in-Drive-2
 join_cell-requires-in-Drive-2 g c =
     let formed = c.in_ok-surely.ensures in
-    let till = stays_then (stays_then c.in_ok-one.ensures.0.stays c.in_ok-join_cell.ensures.stays)
-    (stays_then c.in_ok-zero.ensures.0.stays c.in_ok-join_cell-2.ensures.stays) in
+    let till = stays_then (stays_then c.in_ok-one-in-Drive.ensures.0.stays c.in_ok-join_cell-in-Drive.ensures.stays)
+    (stays_then c.in_ok-zero-in-Drive.ensures.0.stays c.in_ok-join_cell-in-Drive-2.ensures.stays) in
     record {
       boolean = c.requires.boolean;
       row = c.in-Drive.ensures.0;
@@ -84,8 +84,8 @@ join_cell-requires-in-Drive-2 g c =
       sign = till.hand _ formed.2.1.hand;
     }
 
-pub returns-in_ok-join_link : goal.returns-in_ok-join_link
-returns-in_ok-join_link g c =
+pub returns-in_ok-join_link-in-Link : goal.returns-in_ok-join_link-in-Link
+returns-in_ok-join_link-in-Link g c =
     let a = g.A.ChainAlgebra in
     let formed = c.in_ok-surely.ensures in
     let m = a.meaning c.args.alg.now in
@@ -97,18 +97,18 @@ returns-in_ok-join_link g c =
     MatchResult-weaker c.join_link-in-Link.result c.join_link-in-Link.ensures
     (λ _ raised. take_link a.ops a.bit m c.args.states.now c.args.nets.now c.args.device.now
     c.requires.nets.0.distinct c.requires.states.1 c.requires.may.1 c.requires.sure.1 conducts formed.2.0.stays surely
-    c.in-Link.p c.in-Link.q c.in-Link.ensures c.in_ok-join_link.ensures raised)
+    c.in-Link.p c.in-Link.q c.in-Link.ensures c.in_ok-join_link-in-Link.ensures raised)
     (λ _ spent. spent)
 
-pub returns-in_ok-join_cell-2 : goal.returns-in_ok-join_cell-2
-returns-in_ok-join_cell-2 g c =
+pub returns-in_ok-join_cell-in-Drive-2 : goal.returns-in_ok-join_cell-in-Drive-2
+returns-in_ok-join_cell-in-Drive-2 g c =
     let a = g.A.ChainAlgebra in
     let m = a.meaning c.args.alg.now in
     let formed = c.in_ok-surely.ensures in
     let first = formed.2.0.stays in
-    let second = c.in_ok-one.ensures.0.stays in
-    let raised = c.in_ok-join_cell.ensures in
-    let third = c.in_ok-zero.ensures.0.stays in
+    let second = c.in_ok-one-in-Drive.ensures.0.stays in
+    let raised = c.in_ok-join_cell-in-Drive.ensures in
+    let third = c.in_ok-zero-in-Drive.ensures.0.stays in
     let reached = c.in-Drive.ensures in
     let source = c.state_at-source.result in
     let low = end_numbered c.args.device.now _ c.in-Drive.source c.requires.nets.1 reached.1 in
@@ -125,9 +125,9 @@ returns-in_ok-join_cell-2 g c =
     MatchResult-weaker c.join_cell-in-Drive-2.result c.join_cell-in-Drive-2.ensures
     (λ _ last. take_drive a.ops a.bit m c.args.states.now c.args.nets.now c.args.device.now
     c.requires.nets.0.distinct c.requires.states.1 c.requires.may.1 c.requires.sure.1 conducts first surely c.in-Drive.p c.in-Drive.source reached
-    second (marks_meet c.requires.boolean (marks_stay first conducts) (marks_stay first may1) c.in_ok-one.ensures.1) raised
-    third (marks_meet c.requires.boolean (marks_stay till conducts) (marks_stay till may0) c.in_ok-zero.ensures.1)
-    c.in_ok-join_cell-2.ensures last)
+    second (marks_meet c.requires.boolean (marks_stay first conducts) (marks_stay first may1) c.in_ok-one-in-Drive.ensures.1) raised
+    third (marks_meet c.requires.boolean (marks_stay till conducts) (marks_stay till may0) c.in_ok-zero-in-Drive.ensures.1)
+    c.in_ok-join_cell-in-Drive-2.ensures last)
     (λ _ spent. spent)
 
 pub returns-in-Loop : goal.returns-in-Loop
