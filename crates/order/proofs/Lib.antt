@@ -10,3 +10,4 @@ pub mod Rings
 pub mod Sizes
 pub mod Outcomes
 pub mod Cuts
+pub mod Numbers

@@ -1,5 +1,5 @@
 // The components of a drawn circuit in an order in which they can be evaluated.
-ghost use Rattle.std.specs.Prelude.{◌≤◌, vec_capacity};
+ghost use Rattle.std.specs.Prelude.{◌≤◌, All, vec_capacity};
 
 pub mod components;
 pub mod find;
@@ -12,4 +12,5 @@ pub struct Order {
     sizes: Vec<u8>,
     ghost wide: { 128 ≤ vec_capacity nets },
     ghost deep: { 128 ≤ vec_capacity sizes },
+    ghost numbered: { All (λ x. x ≤ 127) nets.items },
 }

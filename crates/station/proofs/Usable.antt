@@ -10,6 +10,7 @@ use Rattle.cell.specs.Waiting.{Linked, Component, WaitsInRing, TooLarge, nets_of
 use Rattle.order.specs.Found.{order_of}
 use Rattle.cell.proofs.Members.{in_left, in_right, every_in, every_from}
 use Rattle.order.proofs.Nets.{rising_distinct}
+use Rattle.order.proofs.Numbers.{order_numbered}
 use Rattle.forming.specs.Systems.{Formable}
 use Rattle.files.specs.Files.{DrawnAtEnd, drawn_format}
 use Rattle.files.specs.Files.DrawnAtEnd.{sound}
@@ -74,14 +75,15 @@ part_in [] ks x k h = absurd k
 part_in (js ∷ order) ks x (inl e) h = in_left x js (nets_of order) (subst (In x) e h)
 part_in (js ∷ order) ks x (inr k) h = in_right x js (nets_of order) (part_in order ks x k h)
 
-module _ (c : Drawn) (order : List (List ℕ)) (L : Lawful drawn_format c) (E : EvaluationOrder c order) where
+module _ (c : Drawn) (order : List (List ℕ)) (L : Lawful drawn_format c) (E : EvaluationOrder c order)
+    (numbers : (x : ℕ) → In x (nets_of order) → x ≤ 127) where
   part_formable : (ks : List ℕ) → In ks order → Formable ks
   part_formable ks h =
       let C = every_in (Component c) order ks E.components h in
       let once = rising_distinct ks C.rising in
       record {
         distinct = once;
-        numbered = every_from (λ x. x ≤ 127) ks (λ x k. E.numbers x (part_in order ks x h k));
+        numbered = every_from (λ x. x ≤ 127) ks (λ x k. numbers x (part_in order ks x h k));
         few = ⊎_elim (λ small. omega (arith, small)) (λ big. absurd (none_large c L.end (C.net, ks, once, every_from (Linked c C.net) ks (λ v k. (C.nets v).0 k), omega (arith, big)))) (cases_lt (length ks) 25);
       }
 
@@ -98,4 +100,4 @@ pub usable : (s : Slot Devices) → ∥ Sound s ∥₁ → s.held ≡ true → U
 usable s t held =
     let c = circuit_of devices_of s.current in
     let order = order_of s.current.body.order in
-    ∥∥₁_elim t (usable_prop c order) (λ h. let both = h held in usable_of c order both.0 both.1)
+    ∥∥₁_elim t (usable_prop c order) (λ h. let both = h held in usable_of c order both.0 both.1 (order_numbered s.current.body.order))

@@ -22,13 +22,13 @@ before t c =
     elim c.if-n-lt10.branch [
       | then-n-lt10 w ↦
           let one = one_digit n w.if-n-lt10.true in
-          record { digits = []; all = sym one; written = none_yet page at c.if-n-lt10.page c.if-n-lt10.last w.page_is w.last_is; room = omega (arith, c.requires, ap length one) }
+          record { digits = []; all = sym one; written = none_yet page at c.if-n-lt10.page c.if-n-lt10.last w.page-is w.last-is; room = omega (arith, c.requires, ap length one) }
       | else-n-lt10 w ↦
           let many = w.if-n-lt10.false in
           record {
             digits = decimal (n / 10);
             all = sym (decimal_step n many (omega arith));
-            written = record { page_is = w.page_is ∙ w.put_digits-last.ensures.page; last_is = w.last_is ∙ w.put_digits-last.ensures.value };
+            written = record { page_is = w.page-is ∙ w.put_digits-last.ensures.page; last_is = w.last-is ∙ w.put_digits-last.ensures.value };
             room = omega (arith, c.requires, more_digits n many (omega arith));
           }
     ]

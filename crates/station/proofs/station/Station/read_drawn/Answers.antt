@@ -34,4 +34,4 @@ returns c =
 pub invariant_of-self : goal.invariant_of-self
 invariant_of-self c =
     let read = c.read.ensures in
-    (sound_read c.args.text.now c.args.self.now.drawn c.read.new.self c.read.result c.args.self.now.sound read.gives read.kept read.same read.still, tt)
+    record { sound = sound_read c.args.text.now c.args.self.now.drawn c.read.new.self c.read.result c.args.self.now.sound read.gives read.kept read.same read.still }

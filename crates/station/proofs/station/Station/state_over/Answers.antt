@@ -14,8 +14,8 @@ form_states-requires g c =
       ins = subst Numbered (sym c.ins.ensures) facts.numbered;
       devices = c.as_slice-devices.ensures.numbered;
       order = subst (λ o. Every Formable (order_of o)) (sym c.order-order.ensures) facts.formable;
-      states = omega (arith, c.split_at_mut-states.ensures.front-len);
-      may = omega (arith, c.split_at_mut-may.ensures.front-len);
+      states = omega (arith, c.split_at_mut-states.ensures.front_len);
+      may = omega (arith, c.split_at_mut-may.ensures.front_len);
       sure = omega (arith, c.requires.work, c.split_at_mut-states.ensures.back_len, c.split_at_mut-may.ensures.back_len);
     }
 
@@ -24,5 +24,5 @@ returns g c =
     read_state g.A.ChainAlgebra.bit (g.A.ChainAlgebra.meaning c.args.alg.now) (g.A.ChainAlgebra.meaning c.form_states.new.alg)
     c.args.self.now.drawn c.args.self.now.sound c.requires.held
     c.ins.result.now c.as_slice-devices.result.now c.order-order.result.now c.form_states.new.states
-    c.ins.ensures c.as_slice-devices.ensures.0 c.order-order.ensures c.requires.inputs c.in_ok-form_states.ensures
+    c.ins.ensures c.as_slice-devices.ensures.items c.order-order.ensures c.requires.inputs c.in_ok-form_states.ensures
     c.args.net c.state_at.result c.requires.net c.state_at.ensures
