@@ -1,5 +1,6 @@
 // Reads drawn.txt and intended.txt in the working folder and prints one line: the first decline, or how much was read.
 #![tactic(auto)]
+
 use console::{print_pair, text_of};
 use station::station::Station;
 

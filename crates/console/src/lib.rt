@@ -1,5 +1,6 @@
 // What the programs read and print.
 #![tactic(auto)]
+
 ghost use Rattle.station.specs.Stations.{held, LeftByPair, LeftByDrawn};
 
 use cell::State;

@@ -11,8 +11,8 @@ in_chunks : (x : ℕ) (nets sizes : List ℕ) → In x (nets_of (chunks nets siz
 in_chunks x nets [] h = absurd h
 in_chunks x nets (k ∷ ks) h =
     let whole : In x (take k nets ++ drop k nets) =
-        ⊎_elim (λ a. in_left x (take k nets) (drop k nets) a) (λ b. in_right x (take k nets) (drop k nets) (in_chunks x (drop k nets) ks b))
-        (in_parts x (take k nets) (nets_of (chunks (drop k nets) ks)) h) in
+    ⊎_elim (λ a. in_left x (take k nets) (drop k nets) a) (λ b. in_right x (take k nets) (drop k nets) (in_chunks x (drop k nets) ks b))
+    (in_parts x (take k nets) (nets_of (chunks (drop k nets) ks)) h) in
     subst (In x) (take-append-drop k nets) whole
 
 pub order_numbered : (o : Order) (x : ℕ) → In x (nets_of (order_of o)) → x ≤ 127

@@ -1,4 +1,5 @@
 #![tactic(auto)]
+
 mod labels;
 pub mod order;
 

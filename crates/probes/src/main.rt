@@ -3,6 +3,7 @@
 //
 // A line of data/cells.txt has a name and a drawn text, written short, with a tab between.
 #![tactic(auto)]
+
 use anyhow::Context;
 use cell::State;
 use shorthand::bytes_of;

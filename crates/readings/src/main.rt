@@ -2,6 +2,7 @@
 //
 // A line of data/cases.txt has a name, a drawn text and an intended text, written short, with tabs between.
 #![tactic(auto)]
+
 use anyhow::Context;
 use console::print_pair;
 use shorthand::bytes_of;

@@ -2,9 +2,9 @@
 // unit N times.
 #![tactic(auto)]
 
-// Adds the bytes that a text without `{` stands for.
 use anyhow::Context;
 
+// Adds the bytes that a text without `{` stands for.
 fn add_plain(bytes: &mut Vec<u8>, text: &str) -> anyhow::Result<()> {
     for (i, piece) in text.split('<').enumerate() {
         let mut rest = piece;
