@@ -1,5 +1,5 @@
 -- Forming a value of a kind that keeps nothing, holds nothing and is not spent. Assumes nothing.
-use Rattle.std.proofs.Common.{◌≡◌, false, ◌⊎◌, [], ◌∷◌, Ok, refl, inl, ⊎_elim, zero-le}
+use Rattle.std.proofs.Common.{◌≡◌, false, [], ◌∷◌, Ok, refl, inl, ⊎_elim, zero-le}
 use Rattle.algebra.specs.Kinds.{keeps_nothing}
 use Rattle.algebra.specs.Holding.{Meaning, Means, Forming, Stays, AtMost, Grown}
 

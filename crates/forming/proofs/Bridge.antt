@@ -1,5 +1,5 @@
 -- The join over all paths of a component's system is 1 exactly where a path of devices leads to a source. Assumes nothing.
-use Rattle.std.proofs.Common.{◌≡◌, ℕ, ◌<◌, Bool, true, ◌⊎◌, ◌↔◌, List, [], ◌∷◌, map, length, get_or, sym, refl, ap, ◌∙◌, subst, inl, inr, ⊎_elim}
+use Rattle.std.proofs.Common.{◌≡◌, ℕ, ◌<◌, Bool, true, ◌↔◌, List, [], ◌∷◌, map, length, get_or, sym, refl, ap, ◌∙◌, subst, inl, inr, ⊎_elim}
 use Rattle.cell.specs.declared.Device.{Device}
 use Rattle.cell.specs.Lists.{In, Every}
 use Rattle.cell.specs.Circuits.{Drawn}

@@ -1,5 +1,5 @@
 -- Where waiting never comes back to its start, the states of a setting are the only ones, and none is neither 0 nor 1. Assumes nothing.
-use Rattle.std.proofs.Common.{◌≡◌, ℕ, Bool, true, false, not, ◌⊎◌, List, sym, refl, ◌∙◌, subst, inl, inr, ⊎_elim}
+use Rattle.std.proofs.Common.{◌≡◌, ℕ, Bool, true, false, not, List, sym, refl, ◌∙◌, subst, inl, inr, ⊎_elim}
 use Rattle.cell.specs.declared.Device.{Device}
 use Rattle.cell.specs.declared.State.{State}
 use Rattle.cell.specs.Circuits.{Drawn}

@@ -1,5 +1,5 @@
 -- The nets of an order are net numbers. Assumes nothing.
-use Rattle.std.proofs.Common.{◌≡◌, ℕ, ◌≤◌, List, [], ◌∷◌, ◌++◌, take, drop, vec_items, subst, ⊎_elim}
+use Rattle.std.proofs.Common.{ℕ, ◌≤◌, List, [], ◌∷◌, ◌++◌, take, drop, vec_items, subst, ⊎_elim}
 use Rattle.std.proofs.lemmas.List.{take-append-drop}
 use Rattle.cell.specs.Lists.{In}
 use Rattle.cell.specs.Waiting.{nets_of}

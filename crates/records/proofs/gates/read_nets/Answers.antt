@@ -1,4 +1,4 @@
-use Rattle.std.proofs.Common.{◌+◌, ◌<◌, ◌++◌, length, take, sym, ap, ◌∙◌, arith, length-set}
+use Rattle.std.proofs.Common.{◌<◌, ◌++◌, length, take, sym, ap, ◌∙◌, arith, length-set}
 use Rattle.text.specs.Outcomes.{map_ok}
 use Rattle.text.specs.Lines.{part_of}
 use Rattle.text.specs.Fields.{fields_left}
