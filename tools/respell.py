@@ -7,12 +7,13 @@ import glob
 import re
 import sys
 
-LIBRARIES = ("cell text meaning algebra paths order forming records files reader netlist circuits station rows console")
+LIBRARIES = "cell text meaning algebra paths order forming records files reader netlist circuits station rows console"
 OWN = re.compile(r"Rattle\.(" + "|".join(LIBRARIES.split()) + r")\.")
 LETTER = r"A-Za-zℕ\u00c0-\u024f\u0370-\u03ff"
 TOKEN = re.compile(rf"(?<![\w'\-])[{LETTER}_](?:[\w'\u2080-\u2089]|-(?=[\w'\u2080-\u2089]))*")
 
-# Where the plain rule would give two things one name, or a definition the name of a Rust function.
+# Where the plain rule would give two things one name, or a definition the name of a Rust function. (Two of these lemmas are in snake
+# case already, by port.py.)
 SPECIAL = {
     "gate-takes": "gate_takes_lem", "map-ok": "map_ok_lem", "net-at": "net_at_lem", "nets-at": "nets_at_lem",
     "nets-of": "nets_of_lem", "if-closed": "if_closed_lem", "nothing-after": "nothing_after_lem",
@@ -57,24 +58,27 @@ def main():
     lemmas = [p for p in paths if p.endswith(".antt") and not is_answer(p)]
     old = {t for p in lemmas for t in TOKEN.findall(uncommented(p, texts[p])) if is_old(t) and t not in kit}
     old |= {t for t in SPECIAL if not is_old(t)}
+    # names that a Rust file gives to what it imports
     for p in paths:
-        changed = TOKEN.sub(lambda m: snake(m.group()) if m.group() in old else m.group(), texts[p])
         if p.endswith(".rt"):
-            # the code's own names stay: only clauses, ghost items and their imports are respelled
-            changed = respell_clauses(texts[p], old)
+            imports = " ".join(re.findall(r"(?m)^ *ghost use .*", texts[p]))
+            old |= {alias for alias in re.findall(r" as (\w+)", imports) if is_old(alias)}
+    for p in paths:
+        changed = respell_clauses(texts[p], old) if p.endswith(".rt") else respell(texts[p], old)
         if changed != texts[p]:
             open(p, "w", encoding="utf-8").write(changed)
     for name in sorted(old):
         print(name, snake(name), file=sys.stdout)
 
 
+def respell(text, old):
+    return TOKEN.sub(lambda m: snake(m.group()) if m.group() in old else m.group(), text)
+
+
 def respell_clauses(text, old):
-    lines = []
-    for line in text.split("\n"):
-        if re.match(r"\s*(ghost |requires|ensures|decreases)", line):
-            line = TOKEN.sub(lambda m: snake(m.group()) if m.group() in old else m.group(), line)
-        lines.append(line)
-    return "\n".join(lines)
+    """The code's own names stay: only clauses, ghost items and their imports are respelled."""
+    clause = re.compile(r"\s*(ghost |requires|ensures|decreases)")
+    return "\n".join(respell(line, old) if clause.match(line) else line for line in text.split("\n"))
 
 
 if __name__ == "__main__":

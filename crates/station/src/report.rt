@@ -1,6 +1,6 @@
 // What came of a call, as a line on a lent page.
 ghost use Rattle.std.specs.Prelude.{◌≡◌, ◌<◌, length};
-ghost use Rattle.station.specs.Reports.{lead as leadOf, Reported, declined_line};
+ghost use Rattle.station.specs.Reports.{lead as lead_of, Reported, declined_line};
 
 use crate::page::{put, put_number};
 use text::fault::{Fault, Reason};
@@ -24,7 +24,7 @@ pub const PAGE: usize = 64;
 
 // The first two fields of a decline.
 fn lead(origin: Origin) -> &'static [u8]
-    ensures { result.now ≡ leadOf origin }
+    ensures { result.now ≡ lead_of origin }
 {
     match origin {
         Origin::Drawn => b"DECLINED\tdrawn\t",

@@ -2,7 +2,7 @@ ghost use Rattle.std.specs.Prelude.{◌≡◌, ◌+◌, ◌-◌, ◌<◌, ◌≤
 ghost use Rattle.std.specs.Option.{option_map};
 ghost use Rattle.text.specs.Faults.{fault};
 ghost use Rattle.text.specs.Split.{first};
-ghost use Rattle.text.specs.Lines.{graphic as isGraphic, formed as isFormed, fields_of, part_of, NextLine, only_one, only_three, three_parts, is_nil};
+ghost use Rattle.text.specs.Lines.{graphic as is_graphic, formed as is_formed, fields_of, part_of, NextLine, only_one, only_three, three_parts, is_nil};
 ghost use Rattle.text.specs.Fields.{fields_left};
 
 use super::{Field, Fields, LIMIT, Line, Lines};
@@ -22,7 +22,7 @@ fn until(s: &[u8], b: u8) -> usize
 }
 
 fn graphic(b: u8) -> bool
-    ensures { result ≡ isGraphic b }
+    ensures { result ≡ is_graphic b }
 {
     match b {
         33..=126 => true,
@@ -32,7 +32,7 @@ fn graphic(b: u8) -> bool
 
 // Fields are not empty, and their bytes are 33 to 126.
 fn formed(bytes: &[u8]) -> bool
-    ensures { result ≡ isFormed bytes.now }
+    ensures { result ≡ is_formed bytes.now }
 {
     let mut empty = true;
     for b in bytes {
