@@ -1,10 +1,13 @@
 // Algebras of signs: each sign in hand means a value, and values can be joined and met.
 #![tactic(auto)]
 
-ghost use Rattle.std.specs.Prelude.{◌≡◌, ℕ, ◌^◌, ◌≤◌, Bool, false, Decides};
+ghost use Rattle.std.specs.Prelude.{◌≡◌, ℕ, ◌^◌, ◌≤◌, Bool, false, List, Decides};
 ghost use Rattle.algebra.specs.Chain.{Chain, Laws};
 ghost use Rattle.algebra.specs.Holding.{Meaning, Means, Forming, Cleared};
 ghost use Rattle.algebra.specs.Signals.{Boolean, Listing, IsInput, IsComplement, First};
+ghost use Rattle.algebra.specs.Made.{Made, Samples};
+
+use text::fault::Fault;
 
 pub mod block;
 pub mod point;
@@ -12,7 +15,7 @@ pub mod point;
 // The most inputs of an algebra.
 pub const MOST_INPUTS: u32 = 16;
 
-// The number of settings of so many inputs.
+// The number of settings of so many inputs, which who makes an algebra has tested.
 pub(crate) fn setting_count(inputs: u32) -> u32
     requires { inputs ≤ 16 }
     ensures { result ≡ 2 ^ inputs }
@@ -21,7 +24,7 @@ pub(crate) fn setting_count(inputs: u32) -> u32
 }
 
 // An algebra cannot hold what forming a value keeps, or could not before and is spent.
-#[derive(Clone, Copy)]
+#[derive(Clone, Copy, Debug, PartialEq, Eq)]
 pub struct Declined;
 
 // A chain algebra. A sign that is not in hand is taken as zero.
@@ -70,16 +73,13 @@ pub trait SignalAlgebra: ChainAlgebra {
     // Whether the list has all settings.
     const COVERS: bool;
 
-    ghost covers: { Bool };
-
-    fn covering() -> bool
-        ensures { result ≡ covers };
+    ghost COVERS: { Bool };
 
     // The number of inputs.
     fn inputs(&self) -> usize
         ensures value { result ≡ (Self.ChainAlgebra.meaning self.now).inputs }
         ensures boolean { Boolean Self.ChainAlgebra.ops Self.ChainAlgebra.bit }
-        ensures lists { Listing covers (Self.ChainAlgebra.meaning self.now) };
+        ensures lists { Listing COVERS (Self.ChainAlgebra.meaning self.now) };
 
     // The function of an input, counted from 0.
     fn input(&mut self, i: usize) -> Result<Self::Sign, Declined>
@@ -91,4 +91,17 @@ pub trait SignalAlgebra: ChainAlgebra {
     // The first listed setting whose bit is 1.
     fn first(&self, a: Self::Sign) -> Option<u32>
         ensures { First (Self.ChainAlgebra.bit ((Self.ChainAlgebra.meaning self.now).value a)) (Self.ChainAlgebra.meaning self.now).listed result };
+}
+
+// A signal algebra of some settings only, which a number tells. It never declines.
+pub trait Sample: SignalAlgebra {
+    // Whether there is one of so many inputs with this number, and which settings it lists.
+    ghost Exists: { ℕ → ℕ → Type 0 };
+
+    ghost listed: { ℕ → ℕ → List ℕ };
+
+    fn new(inputs: u32, number: u32) -> Result<Self, Fault>
+        ensures made { Made (Exists inputs number) (λ a. Samples inputs (listed inputs number) (Self.ChainAlgebra.meaning a)) result };
+
+    ghost unspent: { (a : Self) → (Self.ChainAlgebra.meaning a).spent ≡ false };
 }

@@ -1,3 +1,4 @@
 pub mod Finite
 pub mod Along
 pub mod Members
+pub mod Devices

@@ -33,6 +33,10 @@ Intended = Circuit Gate
 abbrev pub gate_nets : Gate → List ℕ
 gate_nets g = g.inputs ++ g.output ∷ []
 
+-- a device on nets from 0 to 127
+abbrev pub OnNets : Device → Type 0
+OnNets d = (d.gate ≤ 127) × (d.left ≤ 127) × (d.right ≤ 127)
+
 -- net numbers are 0 to 127
 abbrev pub Numbered : List ℕ → Type 0
 Numbered xs = Every (λ x. x ≤ 127) xs

@@ -4,14 +4,10 @@
 use console::{print_pair, text_of};
 use station::station::Station;
 
-fn run(rt: &HostRuntime) -> anyhow::Result<()> {
-    let mut station = Station::open(rt.alloc())?;
-    let drawn = text_of(rt, "drawn.txt")?;
-    let intended = text_of(rt, "intended.txt")?;
-    print_pair(rt, &mut station, &drawn, &intended)?;
-    Ok(())
-}
-
 fn main(rt: HostRuntime) -> anyhow::Result<()> {
-    run(&rt)
+    let mut station = Station::open(rt.alloc())?;
+    let drawn = text_of(&rt, "drawn.txt")?;
+    let intended = text_of(&rt, "intended.txt")?;
+    print_pair(&rt, &mut station, &drawn, &intended)?;
+    Ok(())
 }

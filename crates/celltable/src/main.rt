@@ -5,13 +5,9 @@
 use console::{print_table, text_of};
 use station::station::Station;
 
-fn run(rt: &HostRuntime) -> anyhow::Result<()> {
-    let mut station = Station::open(rt.alloc())?;
-    let drawn = text_of(rt, "drawn.txt")?;
-    print_table(rt, &mut station, &drawn)?;
-    Ok(())
-}
-
 fn main(rt: HostRuntime) -> anyhow::Result<()> {
-    run(&rt)
+    let mut station = Station::open(rt.alloc())?;
+    let drawn = text_of(&rt, "drawn.txt")?;
+    print_table(&rt, &mut station, &drawn)?;
+    Ok(())
 }

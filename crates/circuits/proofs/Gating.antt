@@ -1,100 +1,74 @@
 -- Gates gone through one by one, and the nets of a gate. Assumes nothing.
-use Rattle.std.proofs.Common.{◌≡◌, ℕ, zero, suc, ◌+◌, ◌-◌, ◌<◌, Bool, true, false, cond, ◌||◌, eqb, List, [], ◌∷◌, ◌++◌, map, length, get_or, take, drop, set, Some, None, vec_items, vec_len, sym, refl, ap, ◌∙◌, subst, inl, inr, arith}
-use mathlib.Core.Bool.{beq}
-use Rattle.std.proofs.lemmas.List.{at_drop_more, drop_all, length-drop, length-map, get_or-map, take_more, take_more_set}
-use Rattle.std.proofs.lemmas.Bool.{eq-eqb, ne_eqb, eqb-true, eqb-false, or_left}
+use Rattle.std.proofs.Common.{◌≡◌, ℕ, ◌-◌, Bool, true, false, cond, not, ◌&&◌, ◌||◌, eqb, List, [], ◌∷◌, ◌++◌, map, length, take, get_or, Some, None, Option, sym, refl, ap, ◌∙◌, subst, inl, inr, arith, length-append}
+use Rattle.std.specs.Bool.{then_some}
+use Rattle.std.specs.List.{list_any, list_all, find}
+use Rattle.std.proofs.Math.Seq.{take-append_seam, get_or-append_seam}
+use Rattle.std.proofs.lemmas.Bool.{and_parts}
 use Rattle.cell.specs.declared.GateKind.{GateKind}
 use Rattle.cell.specs.Circuits.{Gate}
 use Rattle.cell.specs.Lists.{In}
-use Rattle.records.specs.declared.NetAt.{NetAt}
+use Rattle.records.specs.declared.Net.{Net}
 use Rattle.records.specs.Records.{values}
+use Rattle.records.specs.Shown.{nets_shown}
 use Rattle.files.specs.Files.{gate_from, driven, is_known, gate_barred}
 use Rattle.circuits.specs.declared.gates.LogicGate.{LogicGate}
-use Rattle.circuits.specs.declared.gates.Gates.{Gates}
-use Rattle.circuits.specs.Bodies.{gate_held, gates_of}
+use Rattle.circuits.specs.Bodies.{gate_held}
 
-pub many : (b : Gates) → vec_len b.gates ≡ length (gates_of b)
-many b = b.gates.ok.0 ∙ sym (length-map (vec_items b.gates) gate_held)
+-- whether a gate drives a net
+pub drives : (gs : List LogicGate) (net : ℕ) → list_any (λ (g : LogicGate). eqb net g.output) gs ≡ driven (map gate_held gs) net
+drives [] net = refl
+drives (g ∷ gs) net = ap (λ t. eqb net g.output || t) (drives gs net)
 
--- whether a gate drives a net, from gate i on
+-- the nets of a list all pass a test, or one fails it
+pub all_pass : (test : ℕ → Bool) (xs : List ℕ) → list_all test xs ≡ true → (x : ℕ) → In x xs → test x ≡ true
+all_pass test [] h x i = absurd i
+all_pass test (y ∷ ys) h x (inl e) = subst (λ z. test z ≡ true) (sym e) (and_parts (test y) (list_all test ys) h).0
+all_pass test (y ∷ ys) h x (inr i) = all_pass test ys (and_parts (test y) (list_all test ys) h).1 x i
 
-module _ (gs : List LogicGate) (net i : ℕ) (d : LogicGate) (l : i < length gs) where
-  abbrev from : List LogicGate → Bool
-  from q = driven (map gate_held q) net
+fails : (test : ℕ → Bool) (y : ℕ) (ys : List ℕ) (b : Bool) → test y ≡ b → (b && list_all test ys) ≡ false
+    → (list_all test ys ≡ false → (x : ℕ) × In x ys × (test x ≡ false)) → (x : ℕ) × In x (y ∷ ys) × (test x ≡ false)
+fails test y ys false e h later = (y, inl refl, e)
+fails test y ys true e h later = let r = later h in (r.0, inr r.1, r.2)
 
-  pub drives_here : (get_or gs i d).output ≡ net → driven (map gate_held (drop i gs)) net ≡ true
-  drives_here e = at_drop_more from gs i d l ∙ or_left (eqb net (get_or gs i d).output) (from (drop (i + 1) gs)) (eq-eqb net (get_or gs i d).output (sym e))
+pub one_fails : (test : ℕ → Bool) (xs : List ℕ) → list_all test xs ≡ false → (x : ℕ) × In x xs × (test x ≡ false)
+one_fails test [] h = cc
+one_fails test (y ∷ ys) h = fails test y ys (test y) refl h (one_fails test ys)
 
-  pub drives_later : ((get_or gs i d).output ≡ net → ⊥) → driven (map gate_held (drop i gs)) net ≡ driven (map gate_held (drop (i + 1) gs)) net
-  drives_later n = at_drop_more from gs i d l ∙ ap (λ t. t || from (drop (i + 1) gs)) (ne_eqb net (get_or gs i d).output (λ e. n (sym e)))
+-- the first input that is not known, or else an output that is
+last : (b : Bool) (place : ℕ) → cond b (Some place) None ≡ then_some b place
+last true place = refl
+last false place = refl
 
--- the nets of a gate that are not allowed, from net i on
+module _ (ins : List ℕ) (es : List Gate) (y : Net) where
+  abbrev known : Net → Bool
+  known x = is_known ins es x.value
 
-more_nets : (ins : List ℕ) (es : List Gate) (x : NetAt) (ys : List NetAt) → 0 < length ys
-    → gate_barred ins es (x ∷ ys) ≡ cond (is_known ins es x.value) (gate_barred ins es ys) (Some x.place)
-more_nets ins es x [] h = absurd (omega arith)
-more_nets ins es x (y ∷ ys) h = refl
+  abbrev pub place_of : Option Net → Option ℕ
+  place_of (Some x) = Some x.field.place
+  place_of None = then_some (known y) y.field.place
 
-module _ (ins : List ℕ) (es : List Gate) (nets : List NetAt) (i : ℕ) (d : NetAt) (l : i < length nets) where
-  abbrev here : NetAt
-  here = get_or nets i d
+  step : (b : Bool) (x : Net) (r : Option Net) (q : Option ℕ) → q ≡ place_of r → cond b q (Some x.field.place) ≡ place_of (cond (not b) (Some x) r)
+  step true x r q e = e
+  step false x r q e = refl
 
-  abbrev later : List NetAt
-  later = drop (i + 1) nets
+  pub barred_first : (xs : List Net) → gate_barred ins es (nets_shown (xs ++ y ∷ [])) ≡ place_of (find (λ x. not (known x)) xs)
+  barred_first [] = last (known y) y.field.place
+  barred_first (x ∷ []) = step (known x) x None _ (last (known y) y.field.place)
+  barred_first (x ∷ z ∷ xs) = step (known x) x (find (λ w. not (known w)) (z ∷ xs)) _ (barred_first (z ∷ xs))
 
-  -- the last net is the output
-  turn : (known output : Bool) → known ≡ is_known ins es here.value → output ≡ eqb (i + 1) (length nets)
-      → gate_barred ins es (drop i nets) ≡ cond output (cond known (Some here.place) None) (cond known (gate_barred ins es later) (Some here.place))
-  turn known true k o =
-      let end = eqb-true (i + 1) (length nets) (sym o) in
-      at_drop_more (gate_barred ins es) nets i d l ∙ ap (λ r. gate_barred ins es (here ∷ r)) (drop_all (i + 1) nets (omega arith)) ∙ ap (λ t. cond t (Some here.place) None) (sym k)
-  turn known false k o =
-      let on : i + 1 < length nets = omega (arith, eqb-false (i + 1) (length nets) (sym o)) in
-      at_drop_more (gate_barred ins es) nets i d l ∙ more_nets ins es here later (omega (arith, length-drop (i + 1) nets)) ∙ ap (λ t. cond t (gate_barred ins es later) (Some here.place)) (sym k)
+-- the gate of its inputs and its output
+numbers : (xs : List Net) (y : Net) → values (nets_shown (xs ++ y ∷ [])) ≡ map (λ (x : Net). x.value) xs ++ y.value ∷ []
+numbers [] y = refl
+numbers (x ∷ xs) y = ap (λ vs. x.value ∷ vs) (numbers xs y)
 
-  choose : (known output : Bool) → beq known output ≡ true → cond output (cond known (Some here.place) None) (cond known (gate_barred ins es later) (Some here.place)) ≡ Some here.place
-  choose true true h = refl
-  choose true false h = let z : ◌≡◌ {A = ℕ} 0 1 = cc in absurd (omega arith)
-  choose false true h = let z : ◌≡◌ {A = ℕ} 0 1 = cc in absurd (omega arith)
-  choose false false h = refl
-
-  pub barred_here : (known : Bool) → known ≡ is_known ins es here.value → beq known (eqb (i + 1) (length nets)) ≡ true → gate_barred ins es (drop i nets) ≡ Some here.place
-  barred_here known k h = turn known (eqb (i + 1) (length nets)) k refl ∙ choose known (eqb (i + 1) (length nets)) h
-
-  go_on : (known output : Bool) → output ≡ eqb (i + 1) (length nets) → beq known output ≡ false
-      → cond output (cond known (Some here.place) None) (cond known (gate_barred ins es later) (Some here.place)) ≡ gate_barred ins es later
-  go_on true true o h = let z : ◌≡◌ {A = ℕ} 0 1 = cc in absurd (omega arith)
-  go_on true false o h = refl
-  go_on false true o h = let end = eqb-true (i + 1) (length nets) (sym o) in sym (ap (gate_barred ins es) (drop_all (i + 1) nets (omega arith)))
-  go_on false false o h = let z : ◌≡◌ {A = ℕ} 0 1 = cc in absurd (omega arith)
-
-  pub allowed_here : (known : Bool) → known ≡ is_known ins es here.value → beq known (eqb (i + 1) (length nets)) ≡ false → gate_barred ins es (drop i nets) ≡ gate_barred ins es later
-  allowed_here known k h = turn known (eqb (i + 1) (length nets)) k refl ∙ go_on known (eqb (i + 1) (length nets)) refl h
-
--- the inputs of a gate, one by one
-
-pub input_more : (xs : List ℕ) (nets : List NetAt) (i : ℕ) (d : NetAt) → i < length xs → i < length nets → take i xs ≡ take i (values nets)
-    → take (i + 1) (set xs i (get_or nets i d).value) ≡ take (i + 1) (values nets)
-input_more xs nets i d l m h =
-    take_more_set xs i (get_or nets i d).value l
-    ∙ (λ j. (h j) ++ (sym (get_or-map (λ (x : NetAt). x.value) nets i d 0 m) j ∷ []))
-    ∙ sym (take_more (values nets) i 0 (omega (arith, length-map nets (λ (x : NetAt). x.value))))
-
-pub gate_made : (k : GateKind) (inputs : List ℕ) (nets : List NetAt) (d : NetAt) → 0 < length nets → take (length nets - 1) inputs ≡ take (length nets - 1) (values nets)
-    → ◌≡◌ {A = Gate} (record { kind = k; inputs = take (length nets - 1) inputs; output = (get_or nets (length nets - 1) d).value }) (gate_from k (values nets))
-gate_made k inputs nets d some h =
-    let long : length (values nets) ≡ length nets = length-map nets (λ (x : NetAt). x.value) in
-    let last : get_or (values nets) (length nets - 1) 0 ≡ (get_or nets (length nets - 1) d).value = get_or-map (λ (x : NetAt). x.value) nets (length nets - 1) d 0 (omega arith) in
-    λ j. record { kind = k; inputs = (h ∙ ap (λ m. take (m - 1) (values nets)) (sym long)) j; output = (sym last ∙ ap (λ m. get_or (values nets) (m - 1) 0) (sym long)) j }
-
--- each element of a list, by its places
-
-pub at_each : (Q : ℕ → Type 0) (xs : List ℕ) → ((k : ℕ) → k < length xs → Q (get_or xs k 0)) → (x : ℕ) → In x xs → Q x
-at_each Q [] f x h = absurd h
-at_each Q (y ∷ ys) f x (inl e) = subst Q (sym e) (f 0 (omega arith))
-at_each Q (y ∷ ys) f x (inr h) = at_each Q ys (λ k l. f (suc k) (omega arith)) x h
-
-pub place_in : (xs : List ℕ) (k : ℕ) → k < length xs → In (get_or xs k 0) xs
-place_in [] k l = absurd (omega arith)
-place_in (y ∷ ys) zero l = inl refl
-place_in (y ∷ ys) (suc k) l = inr (place_in ys k (omega arith))
+pub gate_made : (k : GateKind) (xs : List Net) (y : Net)
+    → gate_from k (values (nets_shown (xs ++ y ∷ []))) ≡ record { kind = k; inputs = map (λ (x : Net). x.value) xs; output = y.value }
+gate_made k xs y =
+    let vs = map (λ (x : Net). x.value) xs in
+    let end : length (vs ++ y.value ∷ []) - 1 ≡ length vs = omega (arith, length-append vs (y.value ∷ [])) in
+    ap (gate_from k) (numbers xs y)
+    ∙ (λ i. record {
+      kind = k;
+      inputs = (ap (λ n. take n (vs ++ y.value ∷ [])) end ∙ take-append_seam vs (y.value ∷ [])) i;
+      output = (ap (λ n. get_or (vs ++ y.value ∷ []) n 0) end ∙ get_or-append_seam vs y.value [] 0) i;
+    })

@@ -1,2 +1,1 @@
 pub mod Gating
-pub mod Numbering

@@ -1,19 +1,15 @@
 -- The gates and devices that a body holds. Assumes nothing.
-use Rattle.std.specs.Prelude.{List, map, take, vec_items}
+use Rattle.std.specs.Prelude.{List, map, vec_items}
 use Rattle.cell.specs.declared.Device.{Device}
 use Rattle.cell.specs.Circuits.{Gate, Drawn}
 use Rattle.cell.specs.Waiting.{EvaluationOrder}
-use Rattle.order.specs.declared.Obstacle.{Obstacle}
-use Rattle.order.specs.declared.Obstacle.TheVariants as obstacles
 use Rattle.order.specs.Found.{order_of}
-use Rattle.text.specs.declared.fault.Reason.{Reason}
-use Rattle.text.specs.declared.fault.Reason.TheVariants as reasons
 use Rattle.circuits.specs.declared.devices.Devices.{Devices}
 use Rattle.circuits.specs.declared.gates.LogicGate.{LogicGate}
 use Rattle.circuits.specs.declared.gates.Gates.{Gates}
 
 abbrev pub gate_held : LogicGate → Gate
-gate_held g = record { kind = g.kind; inputs = take g.count g.inputs; output = g.output }
+gate_held g = record { kind = g.kind; inputs = g.inputs.items; output = g.output }
 
 abbrev pub gates_of : Gates → List Gate
 gates_of b = map gate_held (vec_items b.gates)
@@ -24,8 +20,3 @@ devices_of b = vec_items b.devices
 -- the order is one in which the components of the circuit can be evaluated
 abbrev pub Ordered : Devices → Drawn → Type 0
 Ordered b c = EvaluationOrder c (order_of b.order)
-
--- the decline of a circuit whose components have no order, or are too large
-abbrev pub reason_of : Obstacle → Reason
-reason_of obstacles.WaitingRing = reasons.WaitingRing
-reason_of obstacles.LargeComponent = reasons.LargeComponent

@@ -1,17 +1,19 @@
-// The devices of a drawn circuit, with room for all that a file may have, and the order in which its components can be evaluated.
-ghost use Rattle.std.specs.Prelude.{◌≡◌, ◌≤◌, true, vec_capacity};
-ghost use Rattle.text.specs.Lines.{all_of};
-ghost use Rattle.circuits.specs.Ranges.{on_nets};
+// The devices of a drawn circuit and the order in which its components can be evaluated.
+ghost use Rattle.std.specs.Prelude.{◌≤◌, All, vec_capacity};
+ghost use Rattle.cell.specs.Circuits.{OnNets};
 
 use cell::Device;
 use order::order::Order;
 
 pub mod body;
 
-#[derive(Drop)]
+// The most devices of a file. Their table is large, so it lies on the heap, all of it from the start.
+const MOST: usize = 256;
+
+#[derive(Debug, Drop)]
 pub struct Devices {
     devices: Vec<Device>,
     order: Order,
     ghost room: { 256 ≤ vec_capacity devices },
-    ghost numbered: { all_of on_nets devices.items ≡ true },
+    ghost numbered: { All OnNets devices.items },
 }

@@ -1,20 +1,27 @@
-// The gates of an intended circuit, with room for all that a file may have.
+// The gates of an intended circuit.
 ghost use Rattle.std.specs.Prelude.{◌≤◌, vec_capacity};
 
+use arrayvec::ArrayVec;
 use cell::GateKind;
 
 pub mod body;
 
-// A gate: its kind, its inputs, the first `count` of eight, and its output.
-#[derive(Clone, Copy)]
+// The most gates of a file. Their table is large, so it lies on the heap, all of it from the start.
+const MOST: usize = 64;
+
+// The most inputs of a gate.
+const INPUTS: usize = 8;
+
+// A gate: its kind, its inputs and its output.
+#[derive(Clone, Debug, Drop, PartialEq, Eq)]
 pub struct LogicGate {
     pub kind: GateKind,
-    pub inputs: [u8; 8],
-    pub count: usize,
+    pub inputs: ArrayVec<u8, INPUTS>,
     pub output: u8,
 }
 
-#[derive(Drop)]
+// Beside `Devices`, and no one list of both kinds: those keep an order and a fact of their nets as well.
+#[derive(Debug, Drop)]
 pub struct Gates {
     gates: Vec<LogicGate>,
     ghost room: { 64 ≤ vec_capacity gates },

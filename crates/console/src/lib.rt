@@ -1,11 +1,15 @@
 // What the programs read and print.
 #![tactic(auto)]
 
+ghost use Rattle.std.specs.Prelude.{◌≡◌, ◌<◌, ◌≤◌, length};
+ghost use Rattle.console.specs.Tables.{Few};
+ghost use Rattle.station.specs.Probes.{at_bit};
 ghost use Rattle.station.specs.Stations.{held, LeftByPair, LeftByDrawn};
 
+use arrayvec::ArrayVec;
 use cell::State;
-use rows::{ROW, put_row};
-use station::report::{Decline, Origin, PAGE, report_decline};
+use rows::{MOST, row_of};
+use station::report::{Decline, Origin};
 use station::station::Station;
 use station::station::probe::WORK;
 use std::fs::File;
@@ -21,20 +25,10 @@ pub fn text_of(rt: &HostRuntime, path: &str) -> io::Result<Vec<u8>> {
         Ok(file) => {
             file.take(LIMIT as u64 + 1).read_to_end(&mut text)?;
         }
-        Err(error) => {
-            if error.kind() != ErrorKind::NotFound {
-                return Err(error);
-            }
-        }
+        Err(error) if error.kind() == ErrorKind::NotFound => {}
+        Err(error) => return Err(error),
     }
     Ok(text)
-}
-
-// Prints a decline as its line.
-fn print_decline(rt: &HostRuntime, origin: Origin, fault: Fault) -> io::Result<()> {
-    let mut page = [0; PAGE];
-    let length = report_decline(&Decline { origin, fault }, &mut page).unwrap_or(0);
-    rt.stdout().write_all(page.get(0..length).unwrap_or(b""))
 }
 
 // Reads a pair of texts and prints its line: the first decline, or how much was read.
@@ -51,67 +45,85 @@ pub fn print_pair(
             "READ\t{}\t{}\t{}\t{}",
             read.ins, read.outs, read.devices, read.gates
         ),
-        Err(decline) => print_decline(rt, decline.origin, decline.fault),
+        Err(decline) => print!(rt; "{}", decline.line()),
     }
 }
 
-// The most inputs and outputs of a cell.
-const MOST: usize = 16;
+// Prints a decline of the drawn text as its line.
+fn print_decline(rt: &HostRuntime, fault: Fault) -> io::Result<()> {
+    let decline = Decline {
+        origin: Origin::Drawn,
+        fault,
+    };
+    print!(rt; "{}", decline.line())
+}
 
 // The settings of a block.
 const BLOCK: u32 = 64;
 
-// The states of the outputs under the settings of a block.
+// The states of the outputs under the settings of a block, as the bits of two words each.
 fn survey_outs(
     station: &Station,
     outs: &[u8],
     block: u32,
     work: &mut [u64],
-) -> Result<[State<u64>; MOST], Fault> {
-    let mut words = [State { may0: 0, may1: 0 }; MOST];
-    for (word, net) in words.iter_mut().zip(outs) {
-        *word = station.survey(block, *net, work)?;
+) -> Result<ArrayVec<State<u64>, MOST>, Fault>
+    requires { length outs.now ≤ 16 }
+{
+    let mut words = ArrayVec::new();
+    for net in outs {
+        words.push(station.survey(block, *net, work)?);
     }
     Ok(words)
 }
 
-// Prints the row of a setting: each output's state is a bit of its two words.
+// The state at one bit of two words.
+fn at_lane(words: &State<u64>, lane: u32) -> State<bool>
+    requires { lane < 64 }
+    ensures { result ≡ at_bit words.now lane }
+{
+    State {
+        may0: (words.may0 >> lane) % 2 == 1,
+        may1: (words.may1 >> lane) % 2 == 1,
+    }
+}
+
+// Prints the row of a setting: each output's state is a bit of its two words. A circuit that is held has at most 16 inputs.
 fn print_row(
     rt: &HostRuntime,
     inputs: usize,
     setting: u32,
-    words: &[State<u64>],
-) -> io::Result<()> {
-    let mut states = [State {
-        may0: false,
-        may1: false,
-    }; MOST];
-    let lane = setting % BLOCK;
-    for (state, word) in states.iter_mut().zip(words) {
-        state.may0 = (word.may0 >> lane) % 2 == 1;
-        state.may1 = (word.may1 >> lane) % 2 == 1;
+    words: &ArrayVec<State<u64>, MOST>,
+) -> io::Result<()>
+    requires { inputs ≤ 16 }
+{
+    let mut states: ArrayVec<State<bool>, MOST> = ArrayVec::new();
+    for word in words.as_slice() {
+        states.push(at_lane(word, setting % BLOCK));
     }
-    let mut row = [0; ROW];
-    let states = states.get(0..words.len()).unwrap_or(&[]);
-    let length = put_row(&mut row, inputs, setting, states).unwrap_or(0);
-    rt.stdout().write_all(row.get(0..length).unwrap_or(b""))
+    let Some(row) = row_of(inputs, setting, &states) else {
+        unreachable!();
+    };
+    rt.stdout().write_all(&row)
 }
 
 // Prints the rows of all settings of the drawn circuit that is held.
-fn print_rows(rt: &HostRuntime, station: &Station, inputs: usize) -> io::Result<()> {
-    let outs = station.outs().unwrap_or(&[]);
-    let mut table = [0; WORK];
-    let work = table.as_mut_slice();
-    let mut words = [State { may0: 0, may1: 0 }; MOST];
-    let settings = 1_u32 << inputs.min(MOST);
-    for setting in 0..settings {
-        if setting % BLOCK == 0 {
-            match survey_outs(station, outs, setting / BLOCK, work) {
-                Ok(next) => words = next,
-                Err(fault) => return print_decline(rt, Origin::Drawn, fault),
-            }
+fn print_rows(rt: &HostRuntime, station: &Station, inputs: usize) -> io::Result<()>
+    requires { Few inputs (held station.now).drawn }
+{
+    let Some(outs) = station.outs() else {
+        unreachable!();
+    };
+    let mut work = [0; WORK];
+    let settings = 1_u32 << inputs;
+    for block in 0..settings.div_ceil(BLOCK) {
+        let words = match survey_outs(station, outs, block, &mut work) {
+            Ok(words) => words,
+            Err(fault) => return print_decline(rt, fault),
+        };
+        for lane in 0..settings.min(BLOCK) {
+            print_row(rt, inputs, block * BLOCK + lane, &words)?;
         }
-        print_row(rt, inputs, setting, words.get(0..outs.len()).unwrap_or(&[]))?;
     }
     Ok(())
 }
@@ -122,6 +134,6 @@ pub fn print_table(rt: &HostRuntime, station: &mut Station, drawn: &[u8]) -> io:
 {
     match station.read_drawn(drawn) {
         Ok(inputs) => print_rows(rt, station, inputs),
-        Err(fault) => print_decline(rt, Origin::Drawn, fault),
+        Err(fault) => print_decline(rt, fault),
     }
 }

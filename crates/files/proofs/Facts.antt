@@ -3,9 +3,8 @@ use Rattle.std.proofs.Common.{◌≡◌, ℕ, ◌≤◌, true, List, length, Som
 use Rattle.cell.specs.Circuits.{Circuit, Numbered}
 use Rattle.text.specs.declared.fault.Reason.{Reason}
 use Rattle.text.specs.Lines.{field_formed}
-use Rattle.records.specs.declared.NetAt.{NetAt}
+use Rattle.records.specs.Formats.{Format, NetAt}
 use Rattle.records.specs.declared.Word.TheVariants.{Item}
-use Rattle.records.specs.Formats.{Format}
 use Rattle.records.specs.Records.{word_of, values}
 
 pub record FormatFacts {K I : Type 0} (f : Format K I) : Type 0 where

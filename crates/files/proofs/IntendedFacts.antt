@@ -11,7 +11,7 @@ use Rattle.cell.specs.Circuits.{Gate, Intended, gate_nets, Numbered}
 use Rattle.text.specs.declared.fault.Reason.{Reason}
 use Rattle.text.specs.Lines.{field_formed}
 use Rattle.text.proofs.Steps.{off_on, yes_none, no_none}
-use Rattle.records.specs.declared.NetAt.{NetAt}
+use Rattle.records.specs.Formats.{NetAt}
 use Rattle.records.specs.declared.Word.TheVariants.{Item}
 use Rattle.records.specs.Records.{word_of, values}
 use Rattle.files.specs.Reading.{member, rail}

@@ -10,12 +10,11 @@ use Rattle.text.specs.Outcomes.{and_then, map_ok}
 use Rattle.text.specs.Lines.{Part, only_one, is_nil}
 use Rattle.text.proofs.Steps.{err_ok, off_on, none_some, same_ok, same_some, then_ok, map_ok_lem, or_ok, yes_ok}
 use Rattle.text.proofs.Rows.{raw}
-use Rattle.records.specs.declared.NetAt.{NetAt}
+use Rattle.records.specs.Formats.{Format, NetAt}
 use Rattle.records.specs.declared.Stage.{Stage}
 use Rattle.records.specs.declared.Word.{Word}
 use Rattle.records.specs.declared.Word.TheVariants.{Cell, In, Out, Item, End}
 use Rattle.records.specs.Numbers.{spells_name}
-use Rattle.records.specs.Formats.{Format}
 use Rattle.records.specs.Records.{looked, head_word, or_else, word_of, last_read, may_follow, turned, Entry, cell, input, output, item, finish, single_field, net_at, nets_at, name_at, nets_counted, entry_of, record_of}
 use Rattle.records.proofs.Spelling.{net_at_lem, NetFields, nets_at_lem}
 

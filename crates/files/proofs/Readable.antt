@@ -2,7 +2,7 @@
 use Rattle.std.proofs.Common.{◌≡◌, ℕ, ◌+◌, ◌<◌, ◌≤◌, true, ◌&&◌, ◌||◌, leb, List, [], ◌∷◌, ◌++◌, map, length, Ok, Err, codes, decimal, Result, sym, refl, ap, ◌∙◌, append_assoc, append-nil, arith, length-append}
 use lib.ListN.{length-map}
 use Rattle.std.specs.Option.{ok_or}
-use Rattle.std.specs.List.{flat_map, join_with_byte}
+use Rattle.std.specs.List.{flat_map, join_with_byte, list_all}
 use Rattle.std.proofs.lemmas.Bool.{le-leb, lt-leb, le-ltb, and_from, or_from, cond-true, cond-false}
 use Rattle.cell.specs.Lists.{Along}
 use Rattle.cell.specs.Circuits.{Circuit, Numbered, FreshIn}
@@ -11,14 +11,13 @@ use Rattle.text.specs.declared.fault.Reason.TheVariants.{TextTooLong, MalformedL
 use Rattle.text.specs.Faults.{fault}
 use Rattle.text.specs.Outcomes.{and_then, map_ok}
 use Rattle.text.specs.Split.{split}
-use Rattle.text.specs.Lines.{all_of, field_formed, formed, placed}
+use Rattle.text.specs.Lines.{field_formed, formed, placed}
 use Rattle.text.proofs.Splits.{split_cons, placed_length}
 use Rattle.text.proofs.Rows.{split_row, cut_row}
-use Rattle.records.specs.declared.NetAt.{NetAt}
+use Rattle.records.specs.Formats.{Format, NetAt}
 use Rattle.records.specs.declared.Stage.{Stage}
 use Rattle.records.specs.declared.Stage.TheVariants.{Opening, Inputs, Outputs, Body, Closed}
 use Rattle.records.specs.declared.Word.TheVariants.{Out, Item, End}
-use Rattle.records.specs.Formats.{Format}
 use Rattle.records.specs.Numbers.{spells_name}
 use Rattle.records.specs.Records.{Entry, cell, input, output, item, finish, turned, net_at, nets_at, entry_of, record_of, values}
 use Rattle.records.proofs.Spelling.{net_spelled, name_field}
@@ -49,7 +48,7 @@ values_from : (p : ℕ) (xs : List ℕ) → values (nets_from p xs) ≡ xs
 values_from p [] = refl
 values_from p (x ∷ xs) = ap (λ r. x ∷ r) (values_from (p + length (decimal x) + 1) xs)
 
-nets_formed : (xs : List ℕ) → Numbered xs → all_of field_formed (map decimal xs) ≡ true
+nets_formed : (xs : List ℕ) → Numbered xs → list_all field_formed (map decimal xs) ≡ true
 nets_formed [] h = refl
 nets_formed (x ∷ xs) h = and_from _ _ (net_spelled x h.0).field (nets_formed xs h.1)
 
@@ -94,7 +93,7 @@ module _ {K I : Type 0} (f : Format K I) where
   plan n i o b = record { name = n; ins = i; outs = o; body = b }
 
   -- a row is read as its record, and the reading goes on
-  row_done : (g : List ℕ) (fs : List (List ℕ)) (rest : List ℕ) (s t : Stage) (c d : Circuit I) (e : Entry K) (n p : ℕ) → all_of field_formed (g ∷ fs) ≡ true → record_of f s n p (placed p (g ∷ fs)) ≡ Ok (t, e) → added f c n p e ≡ Ok d
+  row_done : (g : List ℕ) (fs : List (List ℕ)) (rest : List ℕ) (s t : Stage) (c d : Circuit I) (e : Entry K) (n p : ℕ) → list_all field_formed (g ∷ fs) ≡ true → record_of f s n p (placed p (g ∷ fs)) ≡ Ok (t, e) → added f c n p e ≡ Ok d
       → lines_read f s c n p (split 10 (row (g ∷ fs) ++ rest))
       ≡ if_closed t (Ok (record { circuit = d; line = n; place = p; next = p + length (join_with_byte 9 (g ∷ fs)) + 1; rest = split 10 rest })) (lines_read f t d (n + 1) (p + length (join_with_byte 9 (g ∷ fs)) + 1) (split 10 rest))
   row_done g fs rest s t c d e n p a r h =
@@ -102,7 +101,7 @@ module _ {K I : Type 0} (f : Format K I) where
       let q = p + length l + 1 in
       let next : List (List ℕ) → Stage × Circuit I → Result (Ended I) Fault = λ ls u. if_closed u.0 (Ok (record { circuit = u.1; line = n; place = p; next = q; rest = ls })) (lines_read f u.0 u.1 (n + 1) q ls) in
       let fields = split_row g fs a in
-      let good : formed l ≡ true = ap (all_of field_formed) fields ∙ a in
+      let good : formed l ≡ true = ap (list_all field_formed) fields ∙ a in
       let step : line_read f s c n p l ≡ Ok (t, d) =
       cond-true (formed l) _ (Err (fault MalformedLine n p)) good
       ∙ ap (λ u. and_then (record_of f s n p (placed p u)) (λ r. map_ok (λ d. (r.0, d)) (added f c n p r.1))) fields

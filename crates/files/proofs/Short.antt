@@ -1,11 +1,10 @@
 -- The text of a lawful circuit is no longer than a text may be. Assumes nothing.
 use Rattle.std.proofs.Common.{◌≡◌, ℕ, ◌+◌, ◌*◌, ◌≤◌, true, ◌&&◌, leb, List, [], ◌∷◌, ◌++◌, map, length, codes, decimal, suc-mul, arith, length-append}
-use Rattle.std.specs.List.{flat_map, join_with_byte}
+use Rattle.std.specs.List.{flat_map, join_with_byte, list_all}
 use Rattle.std.proofs.lemmas.Fmt.{length-decimal-le}
 use Rattle.std.proofs.lemmas.Bool.{and_parts, leb-true}
 use Rattle.cell.specs.Lists.{Along}
 use Rattle.cell.specs.Circuits.{Circuit, Numbered, FreshIn}
-use Rattle.text.specs.Lines.{all_of}
 use Rattle.records.specs.Formats.{Format}
 use Rattle.records.specs.Numbers.{spells_name, is_name_byte}
 use Rattle.files.specs.Written.{row, cell_row, in_row, out_row, item_row, rows, written}
@@ -30,7 +29,7 @@ out_short : (ins earlier : List ℕ) (x : ℕ) → FreshOut ins earlier x → le
 out_short ins earlier x r = omega (arith, net_short x r.number, length-append (decimal x) (10 ∷ []))
 
 name_short : (bs : List ℕ) → spells_name bs ≡ true → length bs ≤ 16
-name_short bs h = leb-true (length bs) 16 (and_parts _ _ (and_parts (leb 1 (length bs) && leb (length bs) 16) (all_of is_name_byte bs) h).0).1
+name_short bs h = leb-true (length bs) 16 (and_parts _ _ (and_parts (leb 1 (length bs) && leb (length bs) 16) (list_all is_name_byte bs) h).0).1
 
 -- a word and net numbers
 fields_short : (w : List ℕ) (xs : List ℕ) → Numbered xs → length (join_with_byte 9 (w ∷ map decimal xs)) ≤ length w + length xs * 4

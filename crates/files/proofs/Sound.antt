@@ -15,13 +15,12 @@ use Rattle.text.specs.Split.{split}
 use Rattle.text.specs.Lines.{formed, fields_of}
 use Rattle.text.proofs.Steps.{err_ok, off_on, same_ok, then_ok, map_ok_lem, yes_ok, no_ok}
 use Rattle.text.proofs.Rows.{join_split, raw, raw_placed}
-use Rattle.records.specs.declared.NetAt.{NetAt}
+use Rattle.records.specs.Formats.{Format, NetAt}
 use Rattle.records.specs.declared.Stage.{Stage}
 use Rattle.records.specs.declared.Stage.TheVariants.{Opening, Inputs, Outputs, Body, Closed}
 use Rattle.records.specs.declared.Word.{Word}
 use Rattle.records.specs.declared.Word.TheVariants.{Cell, In, Out, Item, End}
 use Rattle.records.specs.Numbers.{spells_name}
-use Rattle.records.specs.Formats.{Format}
 use Rattle.records.specs.Records.{Entry, last_read, may_follow, record_of, values}
 use Rattle.files.specs.Reading.{blank, member, rail, pushed, added_item, added, line_read, Ended, if_closed, lines_read}
 use Rattle.files.specs.Written.{row, cell_row, in_row, out_row, item_row, rows, written}

@@ -1,5 +1,6 @@
 -- The two files: devices, and gates. Assumes nothing.
-use Rattle.std.specs.Prelude.{◌≡◌, ℕ, ◌-◌, Bool, true, false, cond, ◌||◌, List, [], ◌∷◌, length, take, Some, None, Option, ◌==◌, slice_index}
+use Rattle.std.specs.Prelude.{◌≡◌, ℕ, ◌-◌, Bool, true, cond, ◌||◌, List, [], ◌∷◌, length, take, Some, None, Option, ◌==◌, slice_index}
+use Rattle.std.specs.List.{list_any}
 use Rattle.cell.specs.declared.Device.{Device}
 use Rattle.cell.specs.declared.DeviceKind.{DeviceKind}
 use Rattle.cell.specs.declared.GateKind.{GateKind}
@@ -9,9 +10,8 @@ use Rattle.cell.specs.Waiting.{WaitsInRing, TooLarge}
 use Rattle.cell.specs.Gates.{Known}
 use Rattle.text.specs.declared.fault.Reason.{Reason}
 use Rattle.text.specs.declared.fault.Reason.TheVariants.{OutputWithoutGate, WaitingRing, LargeComponent}
-use Rattle.records.specs.declared.NetAt.{NetAt}
+use Rattle.records.specs.Formats.{Format, NetAt}
 use Rattle.records.specs.Kinds.{device_kinds, device_word, device_takes, gate_kinds, gate_word, arity, gate_takes}
-use Rattle.records.specs.Formats.{Format}
 use Rattle.files.specs.Reading.{member, rail}
 
 -- The drawn file.
@@ -53,8 +53,7 @@ pub record GateRule (ins : List ℕ) (earlier : List Gate) (g : Gate) : Type 0 w
   pub output : ¬ (Known ins earlier g.output)
 
 abbrev pub driven : List Gate → ℕ → Bool
-driven [] x = false
-driven (e ∷ es) x = x == e.output || driven es x
+driven es x = list_any (λ (e : Gate). x == e.output) es
 
 abbrev pub is_known : List ℕ → List Gate → ℕ → Bool
 is_known ins earlier x = rail x || member x ins || driven earlier x

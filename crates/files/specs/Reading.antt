@@ -1,5 +1,6 @@
 -- What a text of either file gives: a circuit, or the first decline. Assumes nothing.
-use Rattle.std.specs.Prelude.{◌≡◌, ℕ, ◌+◌, Bool, false, cond, ◌||◌, List, [], ◌∷◌, ◌++◌, length, Some, None, Ok, Err, Option, Result, ◌==◌, nat_le, nat_lt}
+use Rattle.std.specs.Prelude.{◌≡◌, ℕ, ◌+◌, Bool, cond, ◌||◌, List, [], ◌∷◌, ◌++◌, length, Some, None, Ok, Err, Option, Result, ◌==◌, nat_le, nat_lt}
+use Rattle.std.specs.List.{list_any}
 use Rattle.cell.specs.Circuits.{Circuit}
 use Rattle.text.specs.declared.fault.Fault.{Fault}
 use Rattle.text.specs.declared.fault.Reason.{Reason}
@@ -7,18 +8,16 @@ use Rattle.text.specs.declared.fault.Reason.TheVariants.{TextTooLong, MalformedL
 use Rattle.text.specs.Faults.{fault}
 use Rattle.text.specs.Outcomes.{decline_if, and_then, map_ok}
 use Rattle.text.specs.Lines.{formed, is_nil, lines_from, fields_of}
-use Rattle.records.specs.declared.NetAt.{NetAt}
+use Rattle.records.specs.Formats.{Format, NetAt}
 use Rattle.records.specs.declared.Stage.{Stage}
 use Rattle.records.specs.declared.Stage.TheVariants.{Opening, Inputs, Outputs, Body, Closed}
-use Rattle.records.specs.Formats.{Format}
 use Rattle.records.specs.Records.{Entry, cell, input, output, item, finish, values, leading_word, record_of}
 
 abbrev pub blank : {I : Type 0} → Circuit I
 blank = record { name = []; ins = []; outs = []; body = [] }
 
 abbrev pub member : ℕ → List ℕ → Bool
-member x [] = false
-member x (y ∷ ys) = y == x || member x ys
+member x ys = list_any (λ y. y == x) ys
 
 -- net 0 is ground and net 1 is supply
 abbrev pub rail : ℕ → Bool

@@ -3,8 +3,8 @@ use Rattle.std.proofs.Common.{◌≡◌, ℕ, ◌+◌, ◌<◌, ◌≢◌, ◌�
 use Rattle.cell.specs.declared.Device.{Device}
 use Rattle.cell.specs.Lists.{In, Distinct}
 use Rattle.cell.specs.Waiting.{Links}
-use Rattle.forming.specs.Systems.{Reached}
-use Rattle.forming.specs.declared.tables.Reach.TheVariants.{Link, Drive, Loop, Apart}
+use Rattle.forming.specs.Systems.{Reached, Apart}
+use Rattle.forming.specs.declared.tables.Reach.TheVariants.{Link, Drive, Loop}
 use Rattle.cell.proofs.Members.{in_get_or}
 use Rattle.forming.proofs.Places.{one_place}
 
@@ -37,21 +37,21 @@ module _ (nets : List ℕ) (d : Device) where
   one_way hx nw (inr e) (inl f) = absurd (nw (subst (λ v. In v nets) (sym e.1 ∙ f.1) hx))
 
   -- a device with both ends on one net of the list, or with none in it, raises nothing
-  pub idle_says : Distinct nets → (c : ℕ) (Q : Type 0) (R : ℕ → Type 0) → Reached nets d Loop ⊎ Reached nets d Apart → Says nets c (λ a b. ⊥) d Q R
+  pub idle_says : Distinct nets → (c : ℕ) (Q : Type 0) (R : ℕ → Type 0) → Reached nets d Loop ⊎ Apart nets d → Says nets c (λ a b. ⊥) d Q R
   idle_says once c Q R r = record {
     link = λ a b ha hb ne. ((λ h. absurd h), λ h. ne (no_link r a b ha hb h.0));
     own = λ a ha. ((λ h. absurd h), λ h. h.2 (no_own r a h.0 ha h.1));
   }
     where
-      off : Reached nets d Apart → (a y : ℕ) → a < length nets → ¬ (Links d (get_or nets a 0) y)
+      off : Apart nets d → (a y : ℕ) → a < length nets → ¬ (Links d (get_or nets a 0) y)
       off r a y ha (inl e) = r.0 (at_place a ha e.0)
       off r a y ha (inr e) = r.1 (at_place a ha e.1)
 
-      no_link : Reached nets d Loop ⊎ Reached nets d Apart → (a b : ℕ) → a < length nets → b < length nets → Links d (get_or nets a 0) (get_or nets b 0) → a ≡ b
+      no_link : Reached nets d Loop ⊎ Apart nets d → (a b : ℕ) → a < length nets → b < length nets → Links d (get_or nets a 0) (get_or nets b 0) → a ≡ b
       no_link (inl r) a b ha hb l = one_place nets once a b ha hb (⊎_elim (λ e. sym e.0 ∙ r.0 ∙ e.1) (λ e. sym e.1 ∙ sym r.0 ∙ e.0) l)
       no_link (inr r) a b ha hb l = absurd (off r a (get_or nets b 0) ha l)
 
-      no_own : Reached nets d Loop ⊎ Reached nets d Apart → (a y : ℕ) → a < length nets → Links d (get_or nets a 0) y → In y nets
+      no_own : Reached nets d Loop ⊎ Apart nets d → (a y : ℕ) → a < length nets → Links d (get_or nets a 0) y → In y nets
       no_own (inl r) a y ha l = leads_in r.1 (subst (λ v. In v nets) r.0 r.1) l
       no_own (inr r) a y ha l = absurd (off r a y ha l)
 

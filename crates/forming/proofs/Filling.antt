@@ -1,7 +1,7 @@
 -- The tables of a component while the devices are taken up. Assumes nothing.
-use Rattle.std.proofs.Common.{◌≡◌, ℕ, ◌+◌, ◌*◌, ◌<◌, ◌≤◌, Bool, true, List, [], length, get_or, take, sym, refl, ap, ◌∙◌, subst, arith}
+use Rattle.std.proofs.Common.{◌≡◌, ℕ, ◌+◌, ◌*◌, ◌<◌, Bool, true, List, [], length, get_or, take, sym, refl, ap, ◌∙◌, subst, arith}
 use Rattle.std.proofs.lemmas.Nat.{mul-add-lt}
-use Rattle.std.proofs.lemmas.List.{take_more, take_all}
+use Rattle.std.proofs.lemmas.List.{take_more}
 use Rattle.cell.specs.declared.Device.{Device}
 use Rattle.algebra.specs.Chain.{Chain}
 use Rattle.algebra.specs.Holding.{Meaning}
@@ -53,18 +53,4 @@ module _ {S V : Type 0} (A : Chain V) (bit : V → ℕ → Bool) (m : Meaning S 
         sure_long = u.worked.sure_long ∙ f.worked.sure_long;
       };
       tabled = subst (Tabled A bit m2 states nets may2 sure2) (sym (take_more ds i e l)) (u.tabled (take i ds) f.tabled);
-    }
-
-    -- after the last device, of tables that were as long before they were cleared
-    pub filled_all : (may0 sure0 : List S) → length ds ≤ i → length may ≡ length may0 → length sure ≡ length sure0
-        → Filled A bit m m1 states nets ds may0 may1 sure0 sure1
-    filled_all may0 sure0 l may_same sure_same = record {
-      worked = record {
-        stays = f.worked.stays;
-        may_hand = f.worked.may_hand;
-        sure_hand = f.worked.sure_hand;
-        may_long = f.worked.may_long ∙ may_same;
-        sure_long = f.worked.sure_long ∙ sure_same;
-      };
-      tabled = subst (Tabled A bit m1 states nets may1 sure1) (take_all i ds l) f.tabled;
     }

@@ -1,10 +1,10 @@
 -- The loop over the nets of a component: each gets the state that its row of the solved tables says. Assumes nothing.
-use Rattle.std.proofs.Common.{◌≡◌, ℕ, ◌+◌, ◌<◌, ◌≤◌, Bool, true, false, ◌≢◌, ◌⊎◌, List, length, get_or, sym, refl, ap, ◌∙◌, subst, ap₂, inl, inr, not-suc-le-zero, eq-or-lt_of_le, arith}
+use Rattle.std.proofs.Common.{◌≡◌, ℕ, ◌+◌, ◌<◌, ◌≤◌, Bool, true, false, ◌≢◌, ◌⊎◌, List, length, get_or, sym, ap, ◌∙◌, subst, ap₂, inl, inr, eq-or-lt_of_le, arith}
 use Rattle.cell.specs.declared.State.{State}
 use Rattle.algebra.specs.Chain.{Chain}
 use Rattle.algebra.specs.Holding.{Meaning, Stays}
 use Rattle.paths.specs.Solving.{system}
-use Rattle.paths.proofs.Holding.{stays_same, stays_then}
+use Rattle.paths.proofs.Holding.{stays_then}
 use Rattle.forming.specs.Signs.{InHand, values, shown}
 use Rattle.forming.specs.Systems.{Formable}
 use Rattle.forming.specs.Components.{NetFormed}
@@ -26,11 +26,6 @@ pub record FormedTill {S V : Type 0} (A : Chain V) (bit : V → ℕ → Bool) (m
   pub hand : InHand m' states'
   pub new : (p : ℕ) → p < n → (t : ℕ) → shown bit m' states' t (get_or nets p 0) ≡ by_row A bit m (length nets) may sure p t
   pub old : (x : ℕ) → ((p : ℕ) → p < n → x ≢ get_or nets p 0) → (t : ℕ) → shown bit m' states' t x ≡ shown bit m states t x
-
--- none yet
-pub formed_none : {S V : Type 0} (A : Chain V) (bit : V → ℕ → Bool) (m : Meaning S V) (nets : List ℕ) (may sure states : List S)
-    → InHand m states → FormedTill A bit m m nets may sure states states 0
-formed_none A bit m nets may sure states h = record { stays = stays_same m; hand = h; new = λ p l. absurd (not-suc-le-zero l); old = λ x out t. refl }
 
 -- one more: the net at place n gets the state st
 module _ {S V : Type 0} (A : Chain V) (bit : V → ℕ → Bool) (m m' m'' : Meaning S V) (nets : List ℕ) (may sure states states' : List S) (n : ℕ) (st : State S)

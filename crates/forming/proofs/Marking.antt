@@ -65,16 +65,13 @@ module _ {S V : Type 0} (bit : V → ℕ → Bool) (m : Meaning S V) (states : L
 
   module _ (d : Device) (numbered : Numbered (device_nets d)) (o : Bool) (is : o ≡ opens d.kind) where
     -- the sign of a device's gate at the bit that opens it, and the complement of the other
-    pub marks_may : (at : ℕ) (s : S) → at ≡ place_of d.gate o → s ≡ get_or states at s → Marks bit m s (λ t. MayConduct (shown bit m states t) d)
-    marks_may at s place e =
-        let there = place ∙ ap (place_of d.gate) is in
-        marks_state d.gate (opens d.kind) s numbered.0 (subst (λ i. s ≡ get_or states i s) there e)
+    pub marks_may : (s : S) → s ≡ get_or states (place_of d.gate o) s → Marks bit m s (λ t. MayConduct (shown bit m states t) d)
+    marks_may s e = marks_state d.gate (opens d.kind) s numbered.0 (subst (λ b. s ≡ get_or states (place_of d.gate b) s) is e)
 
-    pub marks_sure : {m' : Meaning S V} (at : ℕ) (s u : S) (v : V) → at ≡ place_of d.gate (not o) → s ≡ get_or states at s
+    pub marks_sure : {m' : Meaning S V} (s u : S) (v : V) → s ≡ get_or states (place_of d.gate (not o)) s
         → IsComplement bit (m.value s) v → Means m' u v → Marks bit m' u (λ t. SurelyConducts (shown bit m states t) d)
-    marks_sure at s u v place e non means =
-        let there = place ∙ ap (λ b. place_of d.gate (not b)) is in
-        marks_not v (marks_state d.gate (not (opens d.kind)) s numbered.0 (subst (λ i. s ≡ get_or states i s) there e)) non means
+    marks_sure s u v e non means =
+        marks_not v (marks_state d.gate (not (opens d.kind)) s numbered.0 (subst (λ b. s ≡ get_or states (place_of d.gate (not b)) s) is e)) non means
 
 -- the ends of a numbered device are numbered
 pub end_numbered : (d : Device) (x y : ℕ) → Numbered (device_nets d) → Links d x y → y ≤ 127

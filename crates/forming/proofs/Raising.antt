@@ -1,5 +1,5 @@
 -- Tables some cells of which are raised. Assumes nothing.
-use Rattle.std.proofs.Common.{◌≡◌, ℕ, ◌+◌, ◌*◌, ◌/◌, ◌<◌, ◌≤◌, Bool, true, ◌≢◌, ◌⊎◌, ◌↔◌, List, length, get_or, set, sym, refl, ap, ◌∙◌, subst, inl, inr, ⊎_elim, arith}
+use Rattle.std.proofs.Common.{◌≡◌, ℕ, ◌+◌, ◌*◌, ◌/◌, ◌<◌, ◌≤◌, Bool, true, ◌≢◌, ◌⊎◌, ◌↔◌, List, length, get_or, set, sym, refl, ap, ◌∙◌, subst, subst₂, inl, inr, ⊎_elim, arith}
 use Rattle.std.proofs.lemmas.Nat.{mul-le, mul-add-lt, div-mul-add}
 use Rattle.std.proofs.lemmas.List.{get_or-map, get_or-set_same, get_or-set_other, length-set, map-set}
 use Rattle.cell.proofs.Finite.{same}
@@ -96,10 +96,16 @@ module _ {S V : Type 0} {A : Chain V} {bit : V → ℕ → Bool} {nets width : �
     );
   }
 
+-- the same of a table in equal words
+pub raised_at : {S V : Type 0} {A : Chain V} {bit : V → ℕ → Bool} {m m' : Meaning S V} {nets columns n c : ℕ} {P : ℕ → ℕ → Type 0} {s : S} {xs ys zs : List S}
+    → xs ≡ ys → nets ≡ n → columns ≡ c → Raised A bit m m' nets (nets + columns) P s xs zs → Raised A bit m m' n (n + c) P s ys zs
+raised_at {A = A} {bit = bit} {m = m} {m' = m'} {nets = nets} {columns = columns} {P = P} {s = s} {ys = ys} {zs = zs} e f h r =
+    subst₂ (λ n c. Raised A bit m m' n (n + c) P s ys zs) f h (subst (λ v. Raised A bit m m' nets (nets + columns) P s v zs) e r)
+
 -- a cell becomes the join of what it was and a sign
-module _ {S V : Type 0} {A : Chain V} {bit : V → ℕ → Bool} (B : Boolean A bit) (m m' : Meaning S V) (nets width row column at : ℕ) (xs : List S) (s x y : S)
+module _ {S V : Type 0} {A : Chain V} {bit : V → ℕ → Bool} (B : Boolean A bit) (m m' : Meaning S V) (nets width row column at : ℕ) (xs : List S) (s d y : S)
     (st : Stays m m') (hand : InHand m xs) (hr : row < nets) (hc : column < width) (room : width * nets ≤ length xs)
-    (at_is : at ≡ row * width + column) (x_is : x ≡ get_or xs at x) (joined : Means m' y (A.join (m.value x) (m.value s))) where
+    (at_is : at ≡ row * width + column) (joined : Means m' y (A.join (m.value (get_or xs at d)) (m.value s))) where
   inside : at < length xs
   inside = omega (arith, mul-add-lt row width column nets hr hc)
 
@@ -114,7 +120,7 @@ module _ {S V : Type 0} {A : Chain V} {bit : V → ℕ → Bool} (B : Boolean A 
   here =
       get_or-map m'.value (set xs at y) at y A.zero (omega (arith, inside, length-set xs at y))
       ∙ ap m'.value (get_or-set_same xs at y y inside) ∙ joined.value
-      ∙ ap (λ v. A.join v (m.value s)) (ap m.value x_is ∙ sym (get_or-map m.value xs at x A.zero inside))
+      ∙ ap (λ v. A.join v (m.value s)) (sym (get_or-map m.value xs at d A.zero inside))
 
   -- the others stay
   there : (i : ℕ) → i ≢ at → new i ≡ old i

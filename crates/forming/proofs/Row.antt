@@ -1,6 +1,5 @@
 -- The state of one net from its row of the solved tables. Assumes nothing.
-use Rattle.std.proofs.Common.{◌≡◌, ℕ, ◌+◌, ◌*◌, ◌<◌, ◌≤◌, Bool, true, false, not, ◌||◌, List, length, get_or, sym, ap, ◌∙◌, subst, ap₂, arith}
-use Rattle.std.proofs.lemmas.Nat.{mul-le}
+use Rattle.std.proofs.Common.{◌≡◌, ℕ, ◌+◌, ◌*◌, ◌<◌, ◌≤◌, Bool, true, false, not, ◌||◌, List, length, get_or, sym, ap, ◌∙◌, ap₂, arith}
 use Rattle.std.proofs.lemmas.List.{get_or-map}
 use Rattle.algebra.specs.Chain.{Chain}
 use Rattle.algebra.specs.Holding.{Meaning, Stays, Means}
@@ -9,22 +8,22 @@ use Rattle.paths.specs.Solving.{system}
 use Rattle.forming.specs.Signs.{InHand, values, side}
 use Rattle.forming.specs.Components.{NetFormed}
 use Rattle.paths.proofs.Holding.{stays_then}
+use Rattle.forming.proofs.Raising.{table_fits}
 use Rattle.cell.proofs.Members.{every_place}
 
--- the table of a component has room for its rows, so a place in them is inside it
-pub rows_fit : (nets columns size : ℕ) → nets ≤ 24 → columns ≤ 2 → 640 ≤ size → (nets + columns) * nets ≤ size
-rows_fit nets columns size few own room = omega (arith, room, mul-le (nets + columns) nets 26 24 (omega (arith, few, own)) few)
+-- a place in the rows of a component's table is inside it
+in_rows : (nets columns size r : ℕ) → nets ≤ 24 → columns ≤ 2 → 640 ≤ size → r < (nets + columns) * nets → r < size
+in_rows nets columns size r few own room inside = omega (arith, inside, room, table_fits nets columns few own)
 
-pub in_rows : (nets columns size r : ℕ) → nets ≤ 24 → columns ≤ 2 → 640 ≤ size → r < (nets + columns) * nets → r < size
-in_rows nets columns size r few own room inside = omega (arith, inside, rows_fit nets columns size few own room)
-
--- a sign read from a table in hand means the value that stands there
-pub read : {S V : Type 0} (m : Meaning S V) (v : V) (xs : List S) → InHand m xs → (i j : ℕ) (s : S) → i < length xs → s ≡ get_or xs i s → i ≡ j
-    → Means m s (get_or (values m xs) j v)
-read m v xs h i j s l is e = record {
-  hand = subst (λ z. m.hand z ≡ true) (sym is) (every_place (λ z. m.hand z ≡ true) xs i s l h);
-  value = ap m.value is ∙ sym (get_or-map m.value xs i s v l) ∙ ap (λ k. get_or (values m xs) k v) e;
-}
+-- a sign read from the table of a component in hand means the value that stands there
+pub read : {S V : Type 0} (m : Meaning S V) (v : V) (xs : List S) → InHand m xs → (nets columns : ℕ) → nets ≤ 24 → columns ≤ 2 → 640 ≤ length xs
+    → (i j : ℕ) (d : S) → i < (nets + columns) * nets → i ≡ j → Means m (get_or xs i d) (get_or (values m xs) j v)
+read m v xs h nets columns few own room i j d inside is =
+    let l = in_rows nets columns (length xs) i few own room inside in
+    record {
+      hand = every_place (λ z. m.hand z ≡ true) xs i d l h;
+      value = sym (get_or-map m.value xs i d v l) ∙ ap (λ k. get_or (values m xs) k v) is;
+    }
 
 -- the complement of what drives the net is joined with what it reaches, first for 1 and then for 0
 pub row_formed : {S V : Type 0} (A : Chain V) (bit : V → ℕ → Bool) → Boolean A bit

@@ -1,5 +1,5 @@
 -- The tables of a component with one more device. Assumes nothing.
-use Rattle.std.proofs.Common.{◌≡◌, ℕ, ◌+◌, ◌<◌, Bool, true, false, ◌⊎◌, List, [], ◌∷◌, ◌++◌, length, get_or, sym, subst, inl, inr, ⊎_elim, arith}
+use Rattle.std.proofs.Common.{◌≡◌, ℕ, ◌+◌, ◌<◌, Bool, true, false, ◌⊎◌, List, [], ◌∷◌, ◌++◌, length, get_or, sym, subst, subst₂, inl, inr, ⊎_elim, arith}
 use Rattle.cell.specs.declared.Device.{Device}
 use Rattle.cell.specs.declared.State.{State}
 use Rattle.cell.specs.Lists.{Distinct}
@@ -10,8 +10,8 @@ use Rattle.algebra.specs.Chain.{Chain}
 use Rattle.algebra.specs.Holding.{Meaning, Stays}
 use Rattle.paths.specs.Solving.{system}
 use Rattle.forming.specs.Signs.{InHand, values, shown}
-use Rattle.forming.specs.Systems.{Stands, TakesUp, Raised, Reached}
-use Rattle.forming.specs.declared.tables.Reach.TheVariants.{Link, Drive, Loop, Apart}
+use Rattle.forming.specs.Systems.{Stands, TakesUp, Raised, Reached, Apart}
+use Rattle.forming.specs.declared.tables.Reach.TheVariants.{Link, Drive, Loop}
 use Rattle.paths.proofs.Holding.{stays_then}
 use Rattle.forming.proofs.Keeping.{shown_stays}
 use Rattle.forming.proofs.Raising.{Rises, raised_rises, rises_none, rises_later, rises_before, rises_then}
@@ -86,7 +86,7 @@ module _ {S V : Type 0} (A : Chain V) (bit : V → ℕ → Bool) (m : Meaning S 
 
   module _ {may sure : List S} (may_hand : InHand m may) (sure_hand : InHand m sure) where
     -- a device that raises nothing
-    pub take_idle : {m' : Meaning S V} → Stays m m' → Reached nets d Loop ⊎ Reached nets d Apart → TakesUp A bit m m' states nets d may may sure sure
+    pub take_idle : {m' : Meaning S V} → Stays m m' → Reached nets d Loop ⊎ Apart nets d → TakesUp A bit m m' states nets d may may sure sure
     take_idle st r =
         takes (λ t a b. ⊥) (λ t a b. ⊥) (rises_none st may_hand) (rises_none st sure_hand)
         (λ t. idle_says nets d once 0 _ _ r) (λ t. idle_says nets d once 1 _ _ r) (λ t. idle_says nets d once 0 _ _ r)
@@ -132,3 +132,9 @@ module _ {S V : Type 0} (A : Chain V) (bit : V → ℕ → Bool) (m : Meaning S 
           (λ t. drive_says nets d once 0 _ _ _ p y r
           (λ a b hb h. omega (arith, h.0.1, hb))
           (λ a. ((λ h. (h.0.0, tt, h.1)), λ h. ((h.0, omega arith), h.2))))
+
+-- the same, of tables that hold the same at the end
+pub takes_at : {S V : Type 0} {A : Chain V} {bit : V → ℕ → Bool} {m m' : Meaning S V} {states : List S} {nets : List ℕ} {d : Device} {may may1 may2 sure sure1 sure2 : List S}
+    → TakesUp A bit m m' states nets d may may1 sure sure1 → may2 ≡ may1 → sure2 ≡ sure1 → TakesUp A bit m m' states nets d may may2 sure sure2
+takes_at {A = A} {bit = bit} {m = m} {m' = m'} {states = states} {nets = nets} {d = d} {may = may} {sure = sure} t e f =
+    subst₂ (λ x y. TakesUp A bit m m' states nets d may x sure y) (sym e) (sym f) t

@@ -21,6 +21,12 @@ use Rattle.forming.proofs.Keeping.{hand_stays, values_stay, shown_stays}
 use Rattle.forming.proofs.Ruling.{Joined, joins_rule}
 use Rattle.forming.proofs.Formed.{FormedTill}
 
+-- what is solved, said of a table in equal words
+pub solved_at : {S V : Type 0} {keeps : V → V → Type 0} {A : Chain V} {m m' : Meaning S V} {nets columns n c : ℕ} {xs ys zs : List S}
+    → xs ≡ ys → nets ≡ n → columns ≡ c → Solved keeps A nets columns m m' xs zs → Solved keeps A n c m m' ys zs
+solved_at {keeps = keeps} {A = A} {m = m} {m' = m'} {nets = nets} {columns = columns} {ys = ys} {zs = zs} e f h s =
+    subst₂ (λ n c. Solved keeps A n c m m' ys zs) f h (subst (λ v. Solved keeps A nets columns m m' v zs) e s)
+
 -- what holds of the value of the sign at a place holds of the value there
 at_place : {S V : Type 0} (J : V → Type 0) (f : S → V) (v : V) (xs : List S) (i : ℕ) → i < length xs → ((d : S) → J (f (get_or xs i d))) → J (get_or (map f xs) i v)
 at_place J f v [] i l j = absurd (omega (arith, l))

@@ -1,3 +1,5 @@
 pub mod Signs
 pub mod Systems
 pub mod Components
+pub mod Works
+pub mod Props

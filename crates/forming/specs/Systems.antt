@@ -10,7 +10,7 @@ use Rattle.algebra.specs.Holding.{Meaning, Stays}
 use Rattle.paths.specs.Paths.{System}
 use Rattle.paths.specs.Solving.{system}
 use Rattle.forming.specs.declared.tables.Reach.{Reach}
-use Rattle.forming.specs.declared.tables.Reach.TheVariants.{Link, Drive, Loop, Apart}
+use Rattle.forming.specs.declared.tables.Reach.TheVariants.{Link, Drive, Loop}
 use Rattle.forming.specs.Signs.{InHand, values, shown}
 
 -- A system stands, where values are read at t, for the devices ds with the property Q: two nets are linked where such a device has
@@ -67,10 +67,13 @@ abbrev pub PlacedIn : List ℕ → ℕ → Option ℕ → Type 0
 PlacedIn nets x (Some p) = (p < length nets) × (slice_index nets p ≡ x)
 PlacedIn nets x None = ¬ (In x nets)
 
--- how a device lies to the nets of a component: it links two of them, leads from one of them outside, has both ends on one of
--- them, or has no end among them
+-- how a device with an end among the nets of a component lies to them: it links two of them, leads from one of them outside, or has
+-- both ends on one of them
 abbrev pub Reached : List ℕ → Device → Reach → Type 0
 Reached nets d (Link p q) = (p < length nets) × (q < length nets) × (p ≢ q) × (slice_index nets p ≡ d.left) × (slice_index nets q ≡ d.right)
 Reached nets d (Drive p y) = (p < length nets) × Links d (slice_index nets p) y × (¬ (In y nets))
 Reached nets d Loop = (d.left ≡ d.right) × In d.left nets
-Reached nets d Apart = (¬ (In d.left nets)) × (¬ (In d.right nets))
+
+-- a device has no end among the nets of a component
+abbrev pub Apart : List ℕ → Device → Type 0
+Apart nets d = (¬ (In d.left nets)) × (¬ (In d.right nets))

@@ -1,24 +1,41 @@
 // The tables of a component: a row for each of its nets, with links to its nets and then own values. One is of the devices that
 // may conduct, with an own column for sources that may be 1 and one for those that may be 0; the other of those that surely do.
-ghost use Rattle.std.specs.Prelude.{◌≡◌, ℕ, ◌+◌, ◌*◌, ◌<◌, ◌≤◌, true, ◌⊎◌, length, MatchResult, slice_index_or};
-ghost use Rattle.cell.specs.Lists.{Every};
+ghost use Rattle.std.specs.Prelude.{◌≡◌, ℕ, ◌+◌, ◌<◌, ◌≤◌, true, ◌⊎◌, length, MatchOption, MatchResult, slice_index_or, position, ◌==◌};
 ghost use Rattle.cell.specs.Circuits.{device_nets, Numbered};
 ghost use Rattle.algebra.specs.Signals.{Boolean};
+ghost use Rattle.paths.specs.Shapes.{SameTable};
 ghost use Rattle.forming.specs.Signs.{InHand, values};
-ghost use Rattle.forming.specs.Systems.{Formable, Raised, TakesUp, Filled, PlacedIn, Reached};
+ghost use Rattle.forming.specs.Systems.{Raised, TakesUp, Filled, Reached, Apart};
+ghost use Rattle.forming.specs.Works.{MadeOf, WorkInHand, SameStates};
 
-use crate::signs::{conducts_at, place_of, state_at};
+use crate::nets::Component;
+use crate::signs::conducts_at;
+use crate::work::WorkTable;
 use algebra::{ChainAlgebra, Declined, SignalAlgebra};
-use cell::Device;
-use paths::place;
+use cell::{Device, DeviceList};
+use paths::Table;
 
 // The own columns of the two tables.
 pub(crate) const MAY_COLUMNS: usize = 2;
 
 pub(crate) const SURE_COLUMNS: usize = 1;
 
-// How a device lies to the nets of a component.
-#[derive(Clone, Copy)]
+// A table for a component of so many nets, with so many own columns.
+pub(crate) fn table_of<S>(signs: &mut [S], nets: usize, columns: usize) -> Table<'_, S>
+    requires few { nets ≤ 24 }
+    requires narrow { columns ≤ 2 }
+    requires room { 640 ≤ length signs.old }
+    ensures { MadeOf signs.entry nets columns result }
+{
+    Table {
+        signs,
+        nets,
+        columns,
+    }
+}
+
+// How a device with an end among the nets of a component lies to them.
+#[derive(Clone, Copy, Debug, PartialEq, Eq)]
 pub(crate) enum Reach {
     // It links two of them, at these places.
     Link(usize, usize),
@@ -26,160 +43,145 @@ pub(crate) enum Reach {
     Drive(usize, u8),
     // It has both ends on one of them.
     Loop,
-    // It has no end among them.
-    Apart,
 }
 
 // The place of a net in a list.
 fn place_in(nets: &[u8], net: u8) -> Option<usize>
-    ensures { PlacedIn nets.now net result }
+    ensures { result ≡ position (λ x. x == net) nets.now }
 {
-    for (place, each) in nets.iter().enumerate() {
-        if *each == net {
-            return Some(place);
-        }
-    }
-    None
+    nets.iter().position(|&each| each == net)
 }
 
-fn reach_of(nets: &[u8], device: &Device) -> Reach
-    ensures { Reached nets.now device.now result }
+fn reach_of(nets: &[u8], device: &Device) -> Option<Reach>
+    ensures { MatchOption result (Apart nets.now device.now) (Reached nets.now device.now) }
 {
     match (place_in(nets, device.left), place_in(nets, device.right)) {
-        (Some(p), Some(q)) => if p == q {
-            Reach::Loop
-        } else {
-            Reach::Link(p, q)
-        },
-        (Some(p), None) => Reach::Drive(p, device.right),
-        (None, Some(q)) => Reach::Drive(q, device.left),
-        (None, None) => Reach::Apart,
+        (Some(p), Some(q)) if p == q => Some(Reach::Loop),
+        (Some(p), Some(q)) => Some(Reach::Link(p, q)),
+        (Some(p), None) => Some(Reach::Drive(p, device.right)),
+        (None, Some(q)) => Some(Reach::Drive(q, device.left)),
+        (None, None) => None,
     }
 }
 
 // The cell of a row and a column becomes its join with a sign.
 fn join_cell<A: SignalAlgebra>(
     alg: &mut A,
-    table: &mut [A::Sign],
-    nets: usize,
-    width: usize,
+    table: &mut Table<A::Sign>,
     row: usize,
     column: usize,
     sign: A::Sign,
 ) -> Result<(), Declined>
     requires boolean { Boolean A.ChainAlgebra.ops A.ChainAlgebra.bit }
-    requires row { row < nets }
-    requires column { column < width }
-    requires room { width * nets ≤ length table.old }
-    requires hand { InHand (A.ChainAlgebra.meaning alg.old) table.old }
+    requires row { row < table.old.nets }
+    requires column { column < table.old.nets + table.old.columns }
+    requires hand { InHand (A.ChainAlgebra.meaning alg.old) table.old.signs.now }
     requires sign { (A.ChainAlgebra.meaning alg.old).hand sign ≡ true }
-    ensures { MatchResult result (λ _. Raised A.ChainAlgebra.ops A.ChainAlgebra.bit (A.ChainAlgebra.meaning alg.old) (A.ChainAlgebra.meaning alg.new) nets width (λ a b. (a ≡ row) × (b ≡ column)) sign table.old table.new) (λ _. (A.ChainAlgebra.meaning alg.new).spent ≡ true) }
+    ensures raised { MatchResult result (λ _. Raised A.ChainAlgebra.ops A.ChainAlgebra.bit (A.ChainAlgebra.meaning alg.old) (A.ChainAlgebra.meaning alg.new) table.old.nets (table.old.nets + table.old.columns) (λ a b. (a ≡ row) × (b ≡ column)) sign table.old.signs.now table.new.signs.now) (λ _. (A.ChainAlgebra.meaning alg.new).spent ≡ true) }
+    ensures same { SameTable table.old table.new }
 {
-    let at = place(nets, width, row, column);
-    table[at] = alg.join(table[at], sign)?;
+    let at = table.place(row, column);
+    table.signs[at] = alg.join(table.signs[at], sign)?;
     Ok(())
 }
 
 // The link between two nets, in both directions, is joined with a sign.
 fn join_link<A: SignalAlgebra>(
     alg: &mut A,
-    table: &mut [A::Sign],
-    nets: usize,
-    width: usize,
+    table: &mut Table<A::Sign>,
     p: usize,
     q: usize,
     sign: A::Sign,
 ) -> Result<(), Declined>
     requires boolean { Boolean A.ChainAlgebra.ops A.ChainAlgebra.bit }
-    requires one { p < nets }
-    requires two { q < nets }
-    requires wide { nets ≤ width }
-    requires room { width * nets ≤ length table.old }
-    requires hand { InHand (A.ChainAlgebra.meaning alg.old) table.old }
+    requires one { p < table.old.nets }
+    requires two { q < table.old.nets }
+    requires hand { InHand (A.ChainAlgebra.meaning alg.old) table.old.signs.now }
     requires sign { (A.ChainAlgebra.meaning alg.old).hand sign ≡ true }
-    ensures { MatchResult result (λ _. Raised A.ChainAlgebra.ops A.ChainAlgebra.bit (A.ChainAlgebra.meaning alg.old) (A.ChainAlgebra.meaning alg.new) nets width (λ a b. ((a ≡ p) × (b ≡ q)) ⊎ ((a ≡ q) × (b ≡ p))) sign table.old table.new) (λ _. (A.ChainAlgebra.meaning alg.new).spent ≡ true) }
+    ensures raised { MatchResult result (λ _. Raised A.ChainAlgebra.ops A.ChainAlgebra.bit (A.ChainAlgebra.meaning alg.old) (A.ChainAlgebra.meaning alg.new) table.old.nets (table.old.nets + table.old.columns) (λ a b. ((a ≡ p) × (b ≡ q)) ⊎ ((a ≡ q) × (b ≡ p))) sign table.old.signs.now table.new.signs.now) (λ _. (A.ChainAlgebra.meaning alg.new).spent ≡ true) }
+    ensures same { SameTable table.old table.new }
 {
-    join_cell(alg, table, nets, width, p, q, sign)?;
-    join_cell(alg, table, nets, width, q, p, sign)
+    join_cell(alg, table, p, q, sign)?;
+    join_cell(alg, table, q, p, sign)
 }
 
 // A device is taken up into the tables of a component where it has an end among its nets.
 fn take_up<A: SignalAlgebra>(
     alg: &mut A,
-    states: &[A::Sign],
-    nets: &[u8],
+    component: Component<'_>,
     device: &Device,
-    may: &mut [A::Sign],
-    sure: &mut [A::Sign],
+    work: &mut WorkTable<A::Sign>,
 ) -> Result<(), Declined>
     requires boolean { Boolean A.ChainAlgebra.ops A.ChainAlgebra.bit }
-    requires states { (length states.now ≡ 256) × (InHand (A.ChainAlgebra.meaning alg.old) states.now) }
-    requires nets { (Formable nets.now) × (Numbered (device_nets device.now)) }
-    requires may { (640 ≤ length may.old) × (InHand (A.ChainAlgebra.meaning alg.old) may.old) }
-    requires sure { (640 ≤ length sure.old) × (InHand (A.ChainAlgebra.meaning alg.old) sure.old) }
-    ensures { MatchResult result (λ _. TakesUp A.ChainAlgebra.ops A.ChainAlgebra.bit (A.ChainAlgebra.meaning alg.old) (A.ChainAlgebra.meaning alg.new) states.now nets.now device.now may.old may.new sure.old sure.new) (λ _. (A.ChainAlgebra.meaning alg.new).spent ≡ true) }
+    requires device { Numbered (device_nets device.now) }
+    requires hand { WorkInHand (A.ChainAlgebra.meaning alg.old) work.old }
+    ensures taken { MatchResult result (λ _. TakesUp A.ChainAlgebra.ops A.ChainAlgebra.bit (A.ChainAlgebra.meaning alg.old) (A.ChainAlgebra.meaning alg.new) work.old.states.signs.now component.entry.nets.now device.now work.old.may.now work.new.may.now work.old.sure.now work.new.sure.now) (λ _. (A.ChainAlgebra.meaning alg.new).spent ≡ true) }
+    ensures same { SameStates work.old work.new }
 {
-    let reach = reach_of(nets, device);
-    if let Reach::Apart = reach {
+    let Some(reach) = reach_of(component.nets, device) else {
         return Ok(());
-    }
-    let count = nets.len();
+    };
+    let count = component.nets.len();
     let opens = conducts_at(device.kind);
-    let conducts = states[place_of(device.gate, opens)];
-    let surely = alg.complement(states[place_of(device.gate, !opens)])?;
+    let conducts = work.states.sign(device.gate, opens);
+    let surely = alg.complement(work.states.sign(device.gate, !opens))?;
     match reach {
         Reach::Link(p, q) => {
-            join_link(alg, may, count, count + MAY_COLUMNS, p, q, conducts)?;
-            join_link(alg, sure, count, count + SURE_COLUMNS, p, q, surely)
+            let may = &mut *work.may;
+            join_link(alg, &mut table_of(may, count, MAY_COLUMNS), p, q, conducts)?;
+            let sure = &mut *work.sure;
+            join_link(alg, &mut table_of(sure, count, SURE_COLUMNS), p, q, surely)
         }
         Reach::Drive(p, source) => {
-            let source = state_at(states, source);
+            let source = work.states.at(source);
+            let may = &mut *work.may;
+            let mut may = table_of(may, count, MAY_COLUMNS);
             let one = alg.meet(conducts, source.may1)?;
-            join_cell(alg, may, count, count + MAY_COLUMNS, p, count, one)?;
+            join_cell(alg, &mut may, p, count, one)?;
             let zero = alg.meet(conducts, source.may0)?;
-            join_cell(alg, may, count, count + MAY_COLUMNS, p, count + 1, zero)?;
-            join_cell(alg, sure, count, count + SURE_COLUMNS, p, count, surely)
+            join_cell(alg, &mut may, p, count + 1, zero)?;
+            let sure = &mut *work.sure;
+            join_cell(
+                alg,
+                &mut table_of(sure, count, SURE_COLUMNS),
+                p,
+                count,
+                surely,
+            )
         }
-        Reach::Loop | Reach::Apart => Ok(()),
+        Reach::Loop => Ok(()),
     }
 }
 
-// The first cells of a table become zero.
-pub(crate) fn clear_cells<A: SignalAlgebra>(alg: &A, table: &mut [A::Sign], count: usize)
-    requires { count ≤ length table.old }
-    ensures hand { InHand (A.ChainAlgebra.meaning alg.now) table.old → InHand (A.ChainAlgebra.meaning alg.now) table.new }
-    ensures all { count ≡ length table.old → InHand (A.ChainAlgebra.meaning alg.now) table.new }
-    ensures long { length table.new ≡ length table.old }
-    ensures zero { (k : ℕ) → k < count → slice_index_or (values (A.ChainAlgebra.meaning alg.now) table.new) k A.ChainAlgebra.ops.zero ≡ A.ChainAlgebra.ops.zero }
+// All cells become zero. The slice's own `fill` asks for a `clone` that cannot fail, which the bound of a sign does not say.
+pub(crate) fn clear_cells<A: SignalAlgebra>(alg: &A, cells: &mut [A::Sign])
+    ensures hand { InHand (A.ChainAlgebra.meaning alg.now) cells.new }
+    ensures long { length cells.new ≡ length cells.old }
+    ensures zero { (k : ℕ) → k < length cells.old → slice_index_or (values (A.ChainAlgebra.meaning alg.now) cells.new) k A.ChainAlgebra.ops.zero ≡ A.ChainAlgebra.ops.zero }
 {
     let zero = alg.zero();
-    for cell in 0..count {
-        table[cell] = zero;
+    for cell in cells {
+        *cell = zero;
     }
 }
 
 // The tables of a component are filled from the devices, in the order of the file.
 pub(crate) fn fill<A: SignalAlgebra>(
     alg: &mut A,
-    devices: &[Device],
-    states: &[A::Sign],
-    nets: &[u8],
-    may: &mut [A::Sign],
-    sure: &mut [A::Sign],
+    devices: DeviceList<'_>,
+    component: Component<'_>,
+    work: &mut WorkTable<A::Sign>,
 ) -> Result<(), Declined>
     requires boolean { Boolean A.ChainAlgebra.ops A.ChainAlgebra.bit }
-    requires devices { Every (λ d. Numbered (device_nets d)) devices.now }
-    requires states { (length states.now ≡ 256) × (InHand (A.ChainAlgebra.meaning alg.old) states.now) }
-    requires nets { Formable nets.now }
-    requires may { (640 ≤ length may.old) × (InHand (A.ChainAlgebra.meaning alg.old) may.old) }
-    requires sure { (640 ≤ length sure.old) × (InHand (A.ChainAlgebra.meaning alg.old) sure.old) }
-    ensures { MatchResult result (λ _. Filled A.ChainAlgebra.ops A.ChainAlgebra.bit (A.ChainAlgebra.meaning alg.old) (A.ChainAlgebra.meaning alg.new) states.now nets.now devices.now may.old may.new sure.old sure.new) (λ _. (A.ChainAlgebra.meaning alg.new).spent ≡ true) }
+    requires hand { WorkInHand (A.ChainAlgebra.meaning alg.old) work.old }
+    ensures filled { MatchResult result (λ _. Filled A.ChainAlgebra.ops A.ChainAlgebra.bit (A.ChainAlgebra.meaning alg.old) (A.ChainAlgebra.meaning alg.new) work.old.states.signs.now component.entry.nets.now devices.entry.devices.now work.old.may.now work.new.may.now work.old.sure.now work.new.sure.now) (λ _. (A.ChainAlgebra.meaning alg.new).spent ≡ true) }
+    ensures same { SameStates work.old work.new }
 {
-    let count = nets.len();
-    clear_cells(alg, may, (count + MAY_COLUMNS) * count);
-    clear_cells(alg, sure, (count + SURE_COLUMNS) * count);
-    for device in devices {
-        take_up(alg, states, nets, device, may, sure)?;
+    let count = component.nets.len();
+    clear_cells(alg, &mut work.may[..(count + MAY_COLUMNS) * count]);
+    clear_cells(alg, &mut work.sure[..(count + SURE_COLUMNS) * count]);
+    for device in devices.devices {
+        take_up(alg, component, device, work)?;
     }
     Ok(())
 }

@@ -6,26 +6,20 @@ ghost use Rattle.meaning.specs.Traced.{TracedStates};
 
 // Where waiting never comes back to its start, every setting has states, no others, and no net is neither 0 nor 1. A net on no
 // device is X.
-pub fn states_are_one() -> u8
+pub fn states_are_one()
     ensures there { HasStates }
     ensures only { OneAssignment }
     ensures some { NeverNeither }
     ensures loose { LooseIsUnknown }
-{
-    0
-}
+{}
 
 // Where each gate stands after those that it reads, every setting has bits, and the gates allow no others.
-pub fn bits_are_one() -> u8
+pub fn bits_are_one()
     ensures there { HasBits }
     ensures only { OneBit }
-{
-    0
-}
+{}
 
 // The states of four small cells.
-pub fn traced_states() -> u8
+pub fn traced_states()
     ensures { TracedStates }
-{
-    0
-}
+{}

@@ -1,5 +1,5 @@
 -- One line of a reading, by what each layer said of it. Assumes nothing.
-use Rattle.std.proofs.Common.{◌≡◌, ℕ, ◌+◌, true, false, List, ◌∷◌, length, drop, IfOk, Some, Ok, Err, Option, Result, sym, refl, ap, ◌∙◌, subst}
+use Rattle.std.proofs.Common.{◌≡◌, ℕ, ◌+◌, true, false, List, ◌∷◌, length, drop, Some, Ok, Err, Option, Result, sym, refl, ap, ◌∙◌, subst}
 use Rattle.std.proofs.lemmas.Bool.{cond-true}
 use Rattle.cell.specs.Circuits.{Circuit}
 use Rattle.text.specs.declared.fault.Fault.{Fault}
@@ -9,17 +9,13 @@ use Rattle.text.specs.Outcomes.{and_then, map_ok}
 use Rattle.text.specs.Lines.{Part, formed, lines_from, fields_of, LineAt, NextLine}
 use Rattle.text.specs.declared.lines.Line.{Line}
 use Rattle.text.proofs.Splits.{split_cons}
-use Rattle.text.proofs.Steps.{err_ok, off_on}
+use Rattle.text.proofs.Steps.{off_on}
 use Rattle.records.specs.declared.Stage.{Stage}
 use Rattle.records.specs.declared.Stage.TheVariants.{Opening, Inputs, Outputs, Body, Closed}
 use Rattle.records.specs.declared.Word.{Word}
 use Rattle.records.specs.Formats.{Format}
 use Rattle.records.specs.Records.{Entry, leading_word, record_of}
 use Rattle.files.specs.Reading.{Ended, if_closed, added, line_read, lines_read, line_after, nothing_after}
-
-pub none_made : {X E : Type 0} (r : Result X E) (e : E) (Q : X → Type 0) → r ≡ Err e → IfOk r Q
-none_made (Ok x) e Q h = err_ok e x (sym h)
-none_made (Err x) e Q h = tt
 
 -- the line that a step took
 pub taken : (text : List ℕ) (p n : ℕ) (o : Option Line) (l : Line) (q m : ℕ) → o ≡ Some l → NextLine text p n (Ok o) q m → LineAt text p n l q × (m ≡ n + 1)

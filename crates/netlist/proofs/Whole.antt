@@ -1,5 +1,5 @@
 -- A reading up to END and past it is a whole reading. Assumes nothing.
-use Rattle.std.proofs.Common.{◌≡◌, IfOk, Some, None, Ok, Err, Option, Result, sym, refl, ◌∙◌}
+use Rattle.std.proofs.Common.{◌≡◌, Some, None, Ok, Err, Option, Result, sym, refl, ◌∙◌}
 use Rattle.cell.specs.Circuits.{Circuit}
 use Rattle.text.specs.declared.fault.Fault.{Fault}
 use Rattle.text.specs.declared.fault.Reason.{Reason}
@@ -10,10 +10,6 @@ use Rattle.records.specs.Formats.{Format}
 use Rattle.files.specs.Reading.{Ended, nothing_after, FromEnd}
 use Rattle.reader.specs.Gathered.{answered}
 use Rattle.netlist.specs.Endings.{lines_left, Past, UpTo}
-
-pub every_made : {X E : Type 0} (r : Result X E) (Q : Type 0) → Q → IfOk r (λ _. Q)
-every_made (Ok x) Q h = h
-every_made (Err e) Q h = tt
 
 with_map : {X Y E : Type 0} (r : Result X E) (y : Y) → ok_with r y ≡ map_ok (λ _. y) r
 with_map (Ok x) y = refl

@@ -1,15 +1,16 @@
-// A circuit as its records gather: its ports, with room for all that a file may have, and its body.
-ghost use Rattle.std.specs.Prelude.{◌≤◌, vec_capacity};
+// A circuit as its records gather: its name and ports, as many as a file may have, and its body.
+use arrayvec::ArrayVec;
+use records::fields::NAME;
 
 pub mod gather;
 
-#[derive(Drop)]
+// The most IN records of a file, and the most OUT records.
+pub(crate) const PORTS: usize = 16;
+
+#[derive(Debug, Drop)]
 pub struct Netlist<B> {
-    pub(crate) name: Vec<u8>,
-    pub(crate) ins: Vec<u8>,
-    pub(crate) outs: Vec<u8>,
+    pub(crate) name: ArrayVec<u8, NAME>,
+    pub(crate) ins: ArrayVec<u8, PORTS>,
+    pub(crate) outs: ArrayVec<u8, PORTS>,
     pub body: B,
-    ghost named: { 16 ≤ vec_capacity name },
-    ghost wide: { 16 ≤ vec_capacity ins },
-    ghost deep: { 16 ≤ vec_capacity outs },
 }

@@ -25,7 +25,7 @@ fn read_to_end<'a, B: Body<'a>>(
             return Err(Fault::new(Reason::OutOfTurn, reader.lines.line, reader.lines.pos));
         };
         let item = reader.record::<B>(&line)?;
-        netlist.add(&item, &line)?;
+        netlist.add(item, &line)?;
         if reader.closed() {
             return netlist.close(&line);
         }

@@ -1,11 +1,12 @@
 -- Which components are blocked, as one device after another is gone through. Assumes nothing.
-use Rattle.std.proofs.Common.{◌≡◌, ℕ, ◌+◌, ◌<◌, ◌≤◌, Bool, true, false, ◌⊎◌, List, [], ◌∷◌, ◌++◌, length, get_or, take, set, replicate, Decides, sym, refl, ◌∙◌, subst, inl, inr, ⊎_elim, arith}
-use Rattle.std.proofs.lemmas.List.{get_or-set_same, get_or-set_other, length-set, take_more, take_all}
+use Rattle.std.proofs.Common.{◌≡◌, ℕ, ◌+◌, ◌<◌, Bool, true, false, ◌⊎◌, Option, Some, List, [], ◌∷◌, ◌++◌, length, get_or, take, set, replicate, Decides, sym, refl, ◌∙◌, subst, inl, inr, ⊎_elim}
+use Rattle.std.proofs.lemmas.List.{get_or-set_same, get_or-set_other, take_more}
 use Rattle.std.proofs.lemmas.Bool.{both_ways}
 use Rattle.cell.specs.declared.Device.{Device}
 use Rattle.cell.specs.Lists.{In}
 use Rattle.cell.proofs.Finite.{same}
-use Rattle.order.specs.Components.{label_of, Labels}
+use Rattle.order.specs.declared.labels.Labels.{Labels}
+use Rattle.order.specs.Components.{label_of}
 use Rattle.order.specs.Placing.{marked, Pending, EndsIn, Blocked}
 use Rattle.cell.proofs.Members.{in_left, in_right, in_push}
 use Rattle.order.proofs.Members.{get_or_replicated}
@@ -23,7 +24,11 @@ mark_kept table k l h e =
 pub mark_cases : (table : List Bool) (k l : ℕ) → marked (set table k true) l ≡ true → (k ≡ l) ⊎ (marked table l ≡ true)
 mark_cases table k l e = ⊎_elim (λ p. inl (sym p)) (λ ne. inr (sym (get_or-set_other table k l true false ne) ∙ e)) (same l k)
 
-module _ (labels : List ℕ) (placed : List Bool) where
+-- what `mark` does
+abbrev pub MarksAlso : Option ℕ → List Bool → List Bool → Type 0
+MarksAlso label before after = (l : ℕ) → Decides (marked after l) ((label ≡ Some l) ⊎ (marked before l ≡ true))
+
+module _ (labels : Labels) (placed : List Bool) where
   -- a table that marks the components blocked by the devices
   abbrev pub Marks : List Device → List Bool → Type 0
   Marks ds table = (l : ℕ) → Decides (marked table l) (Blocked labels ds placed l)
@@ -48,63 +53,39 @@ module _ (labels : List ℕ) (placed : List Bool) where
         (in_push b.device ds d b.among),
   )
 
-  module _ (ds : List Device) (d : Device) (table : List Bool) (T : Labels labels) (size : length table ≡ 128) (p : Pending labels placed d)
-      (m : Marks ds table) where
-    left : ℕ
-    left = label_of labels d.left
+  -- both ends are marked
+  pub blocked_mark : (ds : List Device) (d : Device) (table half full : List Bool) → Pending labels placed d → Marks ds table
+      → MarksAlso (label_of labels d.left) table half → MarksAlso (label_of labels d.right) half full → Marks (ds ++ d ∷ []) full
+  blocked_mark ds d table half full p m left right l = (told, back)
+    where
+      here : EndsIn labels d l → Blocked labels (ds ++ d ∷ []) placed l
+      here e = record { device = d; among = in_right d ds (d ∷ []) (inl refl); end = e; gate = p }
 
-    right : ℕ
-    right = label_of labels d.right
+      told : marked full l ≡ true → Blocked labels (ds ++ d ∷ []) placed l
+      told e =
+          ⊎_elim
+          (λ q. here (inr q))
+          (λ f. ⊎_elim (λ q. here (inl q)) (λ g. further ds d l ((m l).0 g)) ((left l).0 f))
+          ((right l).0 e)
 
-    left_low : left < length table
-    unfolding left
-    left_low = omega (arith, T.low d.left)
+      at : EndsIn labels d l → marked full l ≡ true
+      at (inl e) = (right l).1 (inr ((left l).1 (inl e)))
+      at (inr e) = (right l).1 (inl e)
 
-    right_low : right < length (set table left true)
-    unfolding right
-    right_low = omega (arith, T.low d.right, length-set table left true)
-
-    here : (l : ℕ) → EndsIn labels d l → Blocked labels (ds ++ d ∷ []) placed l
-    here l e = record { device = d; among = in_right d ds (d ∷ []) (inl refl); end = e; gate = p }
-
-    told : (l : ℕ) → marked (set (set table left true) right true) l ≡ true → Blocked labels (ds ++ d ∷ []) placed l
-    unfolding left right
-    told l e =
-        ⊎_elim
-        (λ q. here l (inr q))
-        (λ f. ⊎_elim (λ q. here l (inl q)) (λ g. further ds d l ((m l).0 g)) (mark_cases table left l f))
-        (mark_cases (set table left true) right l e)
-
-    old : (l : ℕ) (b : Blocked labels (ds ++ d ∷ []) placed l) → In b.device ds → marked (set (set table left true) right true) l ≡ true
-    old l b h = mark_kept (set table left true) right l right_low (mark_kept table left l left_low ((m l).1 (before ds d l b h)))
-
-    at : (l : ℕ) → EndsIn labels d l → marked (set (set table left true) right true) l ≡ true
-    unfolding left right
-    at l (inl e) =
-        mark_kept (set table left true) right l right_low
-        (subst (λ v. marked (set table left true) v ≡ true) e (mark_here table left left_low))
-    at l (inr e) = subst (λ v. marked (set (set table left true) right true) v ≡ true) e (mark_here (set table left true) right right_low)
-
-    pub blocked_mark : Marks (ds ++ d ∷ []) (set (set table (label_of labels d.left) true) (label_of labels d.right) true)
-    unfolding left right
-    blocked_mark l = (
-      told l,
-      λ b. ⊎_elim (old l b) (λ q. at l (subst (λ (v : Device). EndsIn labels v l) q b.end)) (in_push b.device ds d b.among),
-    )
+      back : Blocked labels (ds ++ d ∷ []) placed l → marked full l ≡ true
+      back b =
+          ⊎_elim
+          (λ h. (right l).1 (inr ((left l).1 (inr ((m l).1 (before ds d l b h))))))
+          (λ q. at (subst (λ (v : Device). EndsIn labels v l) q b.end))
+          (in_push b.device ds d b.among)
 
   -- the device at k is gone through
-  module _ (ds : List Device) (k : ℕ) (d : Device) (table table' : List Bool) (h : k < length ds) (m : Marks (take k ds) table) where
-    pub skipped : ¬ (Pending labels placed (get_or ds k d)) → table' ≡ table → Marks (take (k + 1) ds) table'
-    skipped none e =
-        subst (λ v. Marks v table') (sym (take_more ds k d h))
-        (subst (Marks (take k ds ++ get_or ds k d ∷ [])) (sym e) (blocked_skip (take k ds) (get_or ds k d) table none m))
+  module _ (ds : List Device) (k : ℕ) (d : Device) (table : List Bool) (h : k < length ds) (m : Marks (take k ds) table) where
+    pub skipped : ¬ (Pending labels placed (get_or ds k d)) → Marks (take (k + 1) ds) table
+    skipped none = subst (λ v. Marks v table) (sym (take_more ds k d h)) (blocked_skip (take k ds) (get_or ds k d) table none m)
 
-    pub marked_ends : Labels labels → length table ≡ 128 → Pending labels placed (get_or ds k d)
-        → table' ≡ set (set table (label_of labels (get_or ds k d).left) true) (label_of labels (get_or ds k d).right) true
-        → Marks (take (k + 1) ds) table'
-    marked_ends T size p e =
-        subst (λ v. Marks v table') (sym (take_more ds k d h))
-        (subst (Marks (take k ds ++ get_or ds k d ∷ [])) (sym e) (blocked_mark (take k ds) (get_or ds k d) table T size p m))
-
-  pub all_marked : (ds : List Device) (k : ℕ) (table : List Bool) → length ds ≤ k → Marks (take k ds) table → Marks ds table
-  all_marked ds k table h m = subst (λ v. Marks v table) (take_all k ds h) m
+    pub marked_ends : (half full : List Bool) → Pending labels placed (get_or ds k d)
+        → MarksAlso (label_of labels (get_or ds k d).left) table half → MarksAlso (label_of labels (get_or ds k d).right) half full
+        → Marks (take (k + 1) ds) full
+    marked_ends half full p left right =
+        subst (λ v. Marks v full) (sym (take_more ds k d h)) (blocked_mark (take k ds) (get_or ds k d) table half full p m left right)

@@ -1,16 +1,17 @@
 -- Components arranged by their labels are an order in which the circuit can be evaluated. Assumes nothing.
-use Rattle.std.proofs.Common.{◌≡◌, ℕ, ◌<◌, ◌≤◌, Bool, ◌⊎◌, List, [], ◌∷◌, ◌++◌, map, length, sym, refl, ap, ◌∙◌, subst, inl, inr, ⊎_elim, arith}
+use Rattle.std.proofs.Common.{◌≡◌, ℕ, ◌<◌, ◌≤◌, Bool, ◌⊎◌, Some, List, [], ◌∷◌, ◌++◌, map, length, sym, refl, ap, ◌∙◌, subst, inl, inr, ⊎_elim, arith}
 use Rattle.std.proofs.lemmas.List.{map_push, take_at, drop_at}
 use Rattle.std.proofs.lemmas.Bool.{cases_Bool}
 use Rattle.cell.specs.Lists.{In, Every, Along}
 use Rattle.cell.specs.Circuits.{Drawn}
 use Rattle.cell.specs.Waiting.{Inner, Linked, Component, Waits, nets_of, EvaluationOrder}
 use Rattle.order.specs.declared.order.Order.{Order}
-use Rattle.order.specs.Components.{label_of, Labels, Labelled}
+use Rattle.order.specs.declared.labels.Labels.{Labels}
+use Rattle.order.specs.Components.{label_of, Labelled}
 use Rattle.order.specs.Placing.{nets_with, marked, IsComponent, Unplaced, EndsIn, After, Arranged, nets_in, sizes_in, Complete}
 use Rattle.order.specs.Found.{chunks, order_of}
 use Rattle.order.proofs.Linking.{Low, first_inner, gate_low, linked_low_last}
-use Rattle.order.proofs.Joining.{inner_label, label_inner, linked_same, same_linked, own_label}
+use Rattle.order.proofs.Joining.{linked_same, same_linked, own_label}
 use Rattle.order.proofs.Nets.{nets_rising, nets_are, nets_all}
 use Rattle.order.proofs.Arranging.{labels_nets, nets_distinct, component_low}
 
@@ -36,40 +37,34 @@ every_mapped : {X Y : Type 0} (Q : X → Type 0) (R : Y → Type 0) (f : X → Y
 every_mapped Q R f g [] e = tt
 every_mapped Q R f g (x ∷ xs) e = (g x e.0, every_mapped Q R f g xs e.1)
 
-module _ (c : Drawn) (low : Low c.body) (labels : List ℕ) (T : Labels labels) (L : Labelled c c.body labels) where
-  bearer_inner : (l : ℕ) → IsComponent labels l → Inner c l
-  bearer_inner l i = inner_label c c.body labels L l (λ z. omega (arith, i.own, i.inner))
-
+module _ (c : Drawn) (low : Low c.body) (labels : Labels) (L : Labelled c c.body labels) where
   component : (l : ℕ) → IsComponent labels l → Component c (nets_with labels l)
   component l i = record { rising = nets_rising labels l; net = l; nets = λ v. (to v, from v) }
     where
       lo : l < 128
-      lo = component_low labels T l i
+      lo = component_low labels l i
 
       to : (v : ℕ) → In v (nets_with labels l) → Linked c l v
-      to v h =
-          let r = nets_are labels l v h in
-          same_linked c low labels L l v (omega arith) (omega (arith, r.0)) (bearer_inner l i) (i.own ∙ sym r.1)
+      to v h = let r = nets_are labels l v h in same_linked c low labels L l v l (omega (arith, lo)) (omega (arith, r.0)) i.own r.1
 
       from : (v : ℕ) → Linked c l v → In v (nets_with labels l)
-      from v k = nets_all labels l v (omega (arith, linked_low_last c low k (omega arith))) (sym (linked_same c low labels L k) ∙ i.own)
-
-  label_component : (x : ℕ) → x ≤ 127 → Inner c x → IsComponent labels (label_of labels x)
-  label_component x lo i =
-      let ne = label_inner c c.body labels L x lo i in
-      record { own = own_label c low labels L x lo i; inner = omega arith }
+      from v k = nets_all labels l v (omega (arith, linked_low_last c low k (omega (arith, lo)))) (sym (linked_same c low labels L k) ∙ i.own)
 
   -- a component waits for earlier ones alone
   waits_earlier : (es : List ℕ) (l : ℕ) → After labels c.body es l → (x y : ℕ) → In x (nets_with labels l) → Waits c x y
       → In y (nets_of (map (nets_with labels) es))
   waits_earlier es l a x y h w =
-      labels_nets labels es y (omega (arith, linked_low_last c low w.gate (gate_low c low w.device w.touches.device)))
-      (subst (λ v. In v es) (linked_same c low labels L w.gate) (a w.device w.touches.device (end w.touches.end) inner_gate))
+      labels_nets labels es y gate.0 (omega (arith, linked_low_last c low w.gate gate_number))
+      (sym (linked_same c low labels L w.gate) ∙ gate.1)
+      (a w.device w.touches.device (end w.touches.end) gate.0 gate.1)
     where
-      inner_gate : ¬ (label_of labels w.device.gate ≡ 0)
-      inner_gate = label_inner c c.body labels L w.device.gate (gate_low c low w.device w.touches.device) (first_inner c w.gate)
+      gate_number : w.device.gate ≤ 127
+      gate_number = gate_low c low w.device w.touches.device
 
-      here : label_of labels w.touches.at ≡ l
+      gate : (g : ℕ) × (label_of labels w.device.gate ≡ Some g) × Linked c w.device.gate g
+      gate = L.inner w.device.gate gate_number (first_inner c w.gate)
+
+      here : label_of labels w.touches.at ≡ Some l
       here = sym (linked_same c low labels L w.touches.linked) ∙ (nets_are labels l x h).1
 
       end : (w.device.left ≡ w.touches.at) ⊎ (w.device.right ≡ w.touches.at) → EndsIn labels w.device l
@@ -80,11 +75,12 @@ module _ (c : Drawn) (low : Low c.body) (labels : List ℕ) (T : Labels labels) 
       (done : (l : ℕ) → ¬ (Unplaced labels placed l)) where
     all : (x : ℕ) → Inner c x → x ≤ 127 → In x (nets_of (map (nets_with labels) A.components))
     all x i lo =
-        labels_nets labels A.components x (omega arith)
+        let n = L.inner x lo i in
+        labels_nets labels A.components x n.0 (omega arith) n.1
         (⊎_elim
-        (λ e. (A.marks (label_of labels x)).1 e)
-        (λ e. absurd (done (label_of labels x) (record { component = label_component x lo i; unmarked = e })))
-        (cases_Bool (marked placed (label_of labels x))))
+        (λ e. (A.marks n.0).1 e)
+        (λ e. absurd (done n.0 (record { component = record { own = own_label c low labels L x n.0 lo n.1 }; unmarked = e })))
+        (cases_Bool (marked placed n.0)))
 
     arranged_order : EvaluationOrder c (map (nets_with labels) A.components)
     arranged_order =

@@ -1,4 +1,6 @@
 pub mod Members
+pub mod Tests
+pub mod Own
 pub mod Linking
 pub mod Joining
 pub mod Nets
@@ -9,5 +11,4 @@ pub mod Evaluating
 pub mod Rings
 pub mod Sizes
 pub mod Outcomes
-pub mod Cuts
 pub mod Numbers

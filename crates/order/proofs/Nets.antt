@@ -1,11 +1,14 @@
 -- The nets with a label: which they are, that they rise, and how many they are at most. Assumes nothing.
-use Rattle.std.proofs.Common.{◌≡◌, ℕ, zero, suc, ◌+◌, ◌-◌, ◌<◌, ◌≤◌, eqb, ◌≢◌, List, [], ◌∷◌, ◌++◌, length, sym, refl, ap, ◌∙◌, subst, inl, inr, ⊎_elim, add-zero, add-one, arith}
+use Rattle.std.proofs.Common.{◌≡◌, ℕ, zero, suc, ◌+◌, ◌-◌, ◌<◌, ◌≤◌, true, false, ◌≢◌, Some, List, [], ◌∷◌, ◌++◌, length, sym, refl, ap, ◌∙◌, subst, inl, inr, ⊎_elim, add-zero, add-one, arith}
 use Rattle.std.proofs.lemmas.List.{append-nil, length_push}
-use Rattle.std.proofs.lemmas.Bool.{eq-eqb, ne_eqb, cond-true, cond-false}
+use Rattle.std.proofs.lemmas.Bool.{cases_Bool, cond-true, cond-false}
 use Rattle.cell.specs.Lists.{In, Distinct, Rising}
 use Rattle.cell.proofs.Finite.{same, few}
+use Rattle.order.specs.declared.labels.Labels.{Labels}
+use Rattle.order.specs.Labels.{is_label}
 use Rattle.order.specs.Components.{label_of}
 use Rattle.order.specs.Placing.{nets_below, nets_with}
+use Rattle.order.proofs.Tests.{same_label, is_label-true, is_label-false}
 use Rattle.cell.proofs.Members.{in_left, in_right, in_push}
 
 -- the numbers below n
@@ -38,19 +41,19 @@ pub rising_distinct : (xs : List ℕ) → Rising xs → Distinct xs
 rising_distinct [] r = tt
 rising_distinct (x ∷ xs) r = ((λ h. omega (arith, r.0 x h)), rising_distinct xs r.1)
 
-module _ (labels : List ℕ) (label : ℕ) where
-  pub below_with : (n : ℕ) → label_of labels n ≡ label → nets_below labels label (n + 1) ≡ nets_below labels label n ++ n ∷ []
+module _ (labels : Labels) (label : ℕ) where
+  pub below_with : (n : ℕ) → is_label (label_of labels n) label ≡ true → nets_below labels label (n + 1) ≡ nets_below labels label n ++ n ∷ []
   unfolding nets_below
   below_with n e =
       rw add-one
       (ap (λ v. nets_below labels label n ++ v)
-      (cond-true (eqb (label_of labels n) label) (n ∷ []) [] (eq-eqb (label_of labels n) label e)))
+      (cond-true (is_label (label_of labels n) label) (n ∷ []) [] e))
 
-  pub below_without : (n : ℕ) → label_of labels n ≢ label → nets_below labels label (n + 1) ≡ nets_below labels label n
+  pub below_without : (n : ℕ) → is_label (label_of labels n) label ≡ false → nets_below labels label (n + 1) ≡ nets_below labels label n
   unfolding nets_below
   below_without n e =
       rw add-one
-      (ap (λ v. nets_below labels label n ++ v) (cond-false (eqb (label_of labels n) label) (n ∷ []) [] (ne_eqb (label_of labels n) label e))
+      (ap (λ v. nets_below labels label n ++ v) (cond-false (is_label (label_of labels n) label) (n ∷ []) [] e)
       ∙ append-nil (nets_below labels label n))
 
   pub below_none : nets_below labels label 0 ≡ []
@@ -59,16 +62,16 @@ module _ (labels : List ℕ) (label : ℕ) where
 
   abbrev Facts : ℕ → List ℕ → Type 0
   Facts n xs =
-      Rising xs × ((v : ℕ) → In v xs → (v < n) × (label_of labels v ≡ label)) × ((v : ℕ) → v < n → label_of labels v ≡ label → In v xs)
+      Rising xs × ((v : ℕ) → In v xs → (v < n) × (label_of labels v ≡ Some label)) × ((v : ℕ) → v < n → label_of labels v ≡ Some label → In v xs)
 
-  facts_with : (n : ℕ) (xs : List ℕ) → label_of labels n ≡ label → Facts n xs → Facts (n + 1) (xs ++ n ∷ [])
+  facts_with : (n : ℕ) (xs : List ℕ) → label_of labels n ≡ Some label → Facts n xs → Facts (n + 1) (xs ++ n ∷ [])
   facts_with n xs e f = (
     rising_push xs n f.0 (λ x h. (f.1 x h).0),
     (λ v h. elim (in_push v xs n h) [ inl k ↦ (omega (arith, (f.1 v k).0), (f.1 v k).1) | inr p ↦ (omega arith, ap (label_of labels) p ∙ e) ]),
     λ v lt q. ⊎_elim (λ p. in_right v xs (n ∷ []) (inl p)) (λ ne. in_left v xs (n ∷ []) (f.2 v (omega arith) q)) (same v n),
   )
 
-  facts_without : (n : ℕ) (xs : List ℕ) → label_of labels n ≢ label → Facts n xs → Facts (n + 1) xs
+  facts_without : (n : ℕ) (xs : List ℕ) → label_of labels n ≢ Some label → Facts n xs → Facts (n + 1) xs
   facts_without n xs e f = (
     f.0,
     (λ v h. (omega (arith, (f.1 v h).0), (f.1 v h).1)),
@@ -78,9 +81,9 @@ module _ (labels : List ℕ) (label : ℕ) where
   facts_more : (n : ℕ) → Facts n (nets_below labels label n) → Facts (n + 1) (nets_below labels label (n + 1))
   facts_more n f =
       ⊎_elim
-      (λ e. subst (Facts (n + 1)) (sym (below_with n e)) (facts_with n (nets_below labels label n) e f))
-      (λ e. subst (Facts (n + 1)) (sym (below_without n e)) (facts_without n (nets_below labels label n) e f))
-      (same (label_of labels n) label)
+      (λ e. subst (Facts (n + 1)) (sym (below_with n (is_label-true (label_of labels n) label e))) (facts_with n (nets_below labels label n) e f))
+      (λ e. subst (Facts (n + 1)) (sym (below_without n (is_label-false (label_of labels n) label e))) (facts_without n (nets_below labels label n) e f))
+      (same_label (label_of labels n) label)
 
   facts : (n : ℕ) → Facts n (nets_below labels label n)
   facts zero = subst (Facts 0) (sym below_none) (tt, (λ v h. absurd h), λ v lt q. absurd (omega arith))
@@ -89,10 +92,10 @@ module _ (labels : List ℕ) (label : ℕ) where
   pub nets_rising : Rising (nets_with labels label)
   nets_rising = (facts 128).0
 
-  pub nets_are : (v : ℕ) → In v (nets_with labels label) → (v < 128) × (label_of labels v ≡ label)
+  pub nets_are : (v : ℕ) → In v (nets_with labels label) → (v < 128) × (label_of labels v ≡ Some label)
   nets_are = (facts 128).1
 
-  pub nets_all : (v : ℕ) → v < 128 → label_of labels v ≡ label → In v (nets_with labels label)
+  pub nets_all : (v : ℕ) → v < 128 → label_of labels v ≡ Some label → In v (nets_with labels label)
   nets_all = (facts 128).2
 
   below_step : (n : ℕ) → length (nets_below labels label n) ≤ length (nets_below labels label (n + 1))
@@ -100,7 +103,7 @@ module _ (labels : List ℕ) (label : ℕ) where
       ⊎_elim
       (λ e. omega (arith, ap length (below_with n e), length_push (nets_below labels label n) n))
       (λ e. omega (arith, ap length (below_without n e)))
-      (same (label_of labels n) label)
+      (cases_Bool (is_label (label_of labels n) label))
 
   below_rises : (n k : ℕ) → length (nets_below labels label n) ≤ length (nets_below labels label (n + k))
   below_rises n zero = rw add-zero (omega arith)
@@ -110,7 +113,7 @@ module _ (labels : List ℕ) (label : ℕ) where
       (omega (arith, below_rises n k, below_step (n + k)))
 
   -- one more net with the label is counted among all
-  pub below_room : (n : ℕ) → n < 128 → label_of labels n ≡ label → length (nets_below labels label n) + 1 ≤ length (nets_with labels label)
+  pub below_room : (n : ℕ) → n < 128 → is_label (label_of labels n) label ≡ true → length (nets_below labels label n) + 1 ≤ length (nets_with labels label)
   below_room n lt e =
       let m : (n + 1) + (128 - (n + 1)) ≡ 128 = omega arith in
       let r = subst (λ v. length (nets_below labels label (n + 1)) ≤ length (nets_below labels label v)) m (below_rises (n + 1) (128 - (n + 1))) in

@@ -1,18 +1,19 @@
 -- Waiting comes back to its start where components that wait for one another are left over, and never where there is an order.
 -- Assumes nothing.
-use Rattle.std.proofs.Common.{◌≡◌, ℕ, zero, suc, ◌+◌, ◌<◌, ◌≤◌, Bool, ◌⊎◌, List, [], ◌∷◌, ◌++◌, length, sym, refl, ap, ◌∙◌, subst, inl, inr, ⊎_elim, arith}
+use Rattle.std.proofs.Common.{◌≡◌, ℕ, zero, suc, ◌+◌, ◌<◌, Bool, ◌⊎◌, List, [], ◌∷◌, ◌++◌, length, sym, refl, ap, ◌∙◌, subst, inl, inr, ⊎_elim, arith}
 use Rattle.std.proofs.lemmas.List.{append_assoc, flat_map_more}
 use Rattle.cell.specs.declared.Device.{Device}
 use Rattle.cell.specs.Lists.{In, Distinct, Along}
 use Rattle.cell.specs.Circuits.{Drawn}
-use Rattle.cell.specs.Waiting.{Linked, Touches, Waits, WaitsOn, WaitsInRing, nets_of, EvaluationOrder}
+use Rattle.cell.specs.Waiting.{Touches, Waits, WaitsOn, WaitsInRing, nets_of, EvaluationOrder}
 use Rattle.cell.specs.Waiting.WaitsOn.{once, more}
 use Rattle.cell.proofs.Finite.{dec_in}
-use Rattle.order.specs.Components.{label_of, Labels, Labelled}
-use Rattle.order.specs.Placing.{IsComponent, Unplaced, EndsIn, Stuck, Ringed}
+use Rattle.order.specs.declared.labels.Labels.{Labels}
+use Rattle.order.specs.Components.{Labelled}
+use Rattle.order.specs.Placing.{Unplaced, EndsIn, Stuck, Ringed}
 use Rattle.cell.proofs.Members.{in_left, in_right, in_parts}
 use Rattle.order.proofs.Linking.{Low, first_inner, linked_back, end_low, gate_low, linked_low_last}
-use Rattle.order.proofs.Joining.{inner_label, own_label}
+use Rattle.order.proofs.Joining.{label_linked, own_label}
 use Rattle.order.proofs.Nets.{few_nets}
 use Rattle.order.proofs.Arranging.{component_low}
 
@@ -21,20 +22,14 @@ module _ (c : Drawn) where
   on_more (once w) v = more w (once v)
   on_more (more w r) v = more w (on_more r v)
 
-  module _ (low : Low c.body) (labels : List ℕ) (T : Labels labels) (L : Labelled c c.body labels) (placed : List Bool)
+  module _ (low : Low c.body) (labels : Labels) (L : Labelled c c.body labels) (placed : List Bool)
       (stuck : Stuck labels c.body placed) where
-    -- a net whose label is that of a component is linked to the component's bearer
-    to_end : (l x : ℕ) → IsComponent labels l → x ≤ 127 → label_of labels x ≡ l → Linked c l x
-    to_end l x i lo e =
-        let n = inner_label c c.body labels L x (λ z. omega (arith, i.inner)) in
-        linked_back c (subst (Linked c x) e (L.inner x lo n))
-
-    touches : (l : ℕ) (d : Device) → IsComponent labels l → In d c.body → EndsIn labels d l → Touches c l d
-    touches l d i h (inl e) =
-        let k = to_end l d.left i (end_low c low d d.left h (inl refl)) e in
+    touches : (l : ℕ) (d : Device) → In d c.body → EndsIn labels d l → Touches c l d
+    touches l d h (inl e) =
+        let k = linked_back c (label_linked c c.body labels L d.left l (end_low c low d d.left h (inl refl)) e) in
         record { device = h; at = d.left; linked = k; end = inl refl }
-    touches l d i h (inr e) =
-        let k = to_end l d.right i (end_low c low d d.right h (inr refl)) e in
+    touches l d h (inr e) =
+        let k = linked_back c (label_linked c c.body labels L d.right l (end_low c low d d.right h (inr refl)) e) in
         record { device = h; at = d.right; linked = k; end = inr refl }
 
     -- a component left over waits for another
@@ -42,12 +37,11 @@ module _ (c : Drawn) where
     next l u =
         let b = stuck l u in
         let d = b.device in
-        let n = b.gate.inner in
-        let lo = gate_low c low d b.among in
-        let i = inner_label c c.body labels L d.gate n in (
-          label_of labels d.gate,
-          record { component = record { own = own_label c low labels L d.gate lo i; inner = omega arith }; unmarked = b.gate.unmarked },
-          record { device = d; touches = touches l d u.component b.among b.end; gate = L.inner d.gate lo i },
+        let g = b.gate in
+        let lo = gate_low c low d b.among in (
+          g.component,
+          record { component = record { own = own_label c low labels L d.gate g.component lo g.gate }; unmarked = g.unmarked },
+          record { device = d; touches = touches l d b.among b.end; gate = label_linked c c.body labels L d.gate g.component lo g.gate },
         )
 
     -- `seen`: components that are x or wait for it, none of them twice; k more may come
@@ -62,7 +56,7 @@ module _ (c : Drawn) where
         (λ h. (n.0, further n.0 (on n.0 h)))
         (λ h.
         go k n.0 (n.0 ∷ seen) n.1 (h, d)
-        (λ g. elim [ inl e ↦ subst (λ v. v < 128) (sym e) (component_low labels T n.0 n.1.component) | inr i ↦ lo g i ])
+        (λ g. elim [ inl e ↦ subst (λ v. v < 128) (sym e) (component_low labels n.0 n.1.component) | inr i ↦ lo g i ])
         (λ g. elim [ inl e ↦ inl e | inr i ↦ inr (further g (on g i)) ])
         (omega arith))
         (dec_in n.0 seen)
@@ -70,8 +64,8 @@ module _ (c : Drawn) where
     pub left_over : (l : ℕ) → Unplaced labels placed l → WaitsInRing c
     left_over l u = go 129 l [] u tt (λ g h. absurd h) (λ g h. absurd h) (omega arith)
 
-  pub ringed : (low : Low c.body) (labels : List ℕ) → Labels labels → Labelled c c.body labels → Ringed labels c.body → WaitsInRing c
-  ringed low labels T L r = left_over low labels T L r.0 r.1 r.2.0 r.2.1
+  pub ringed : (low : Low c.body) (labels : Labels) → Labelled c c.body labels → Ringed labels c.body → WaitsInRing c
+  ringed low labels L r = left_over low labels L r.0 r.1 r.2.0 r.2.1
 
   -- none of these components waits for one outside of them
   Closed : List (List ℕ) → Type 0

@@ -1,32 +1,18 @@
 -- One round of placing components: what holds while one label after another is gone to. Assumes nothing.
-use Rattle.std.proofs.Common.{◌≡◌, ℕ, ◌+◌, ◌<◌, ◌≤◌, Bool, true, false, List, [], ◌∷◌, ◌++◌, length, set, replicate, Decides, sym, ◌∙◌, subst, ⊎_elim, arith}
+use Rattle.std.proofs.Common.{◌≡◌, ℕ, ◌+◌, ◌<◌, ◌≤◌, Bool, true, false, Some, List, [], ◌∷◌, ◌++◌, length, set, Decides, sym, ◌∙◌, subst, ⊎_elim, arith}
 use Rattle.std.proofs.lemmas.List.{length-set, length_push}
 use Rattle.std.proofs.lemmas.Bool.{both_ways, cases_Bool, true≢false}
 use Rattle.cell.specs.declared.Device.{Device}
 use Rattle.cell.specs.Lists.{In}
 use Rattle.cell.proofs.Finite.{same}
-use Rattle.order.specs.Components.{label_of, Labels}
+use Rattle.order.specs.declared.labels.Labels.{Labels}
+use Rattle.order.specs.Components.{label_of}
 use Rattle.order.specs.Placing.{nets_with, marked, Unplaced, EndsIn, Blocked, Arranged}
-use Rattle.order.proofs.Members.{get_or_replicated}
 use Rattle.order.proofs.Blocking.{mark_kept}
 use Rattle.order.proofs.Arranging.{component_low, arranged_more}
 
--- nothing is placed at first
-pub arranged_none : (labels : List ℕ) (ds : List Device) (nets sizes : List ℕ) → nets ≡ [] → sizes ≡ []
-    → Arranged labels ds (replicate 128 false) nets sizes
-arranged_none labels ds nets sizes e f =
-    record {
-      components = [];
-      nets_are = e;
-      sizes_are = f;
-      distinct = tt;
-      real = tt;
-      marks = λ l. ((λ h. absurd h), λ e. both_ways (marked (replicate 128 false) l) (get_or_replicated 128 l false) e);
-      after = tt;
-    }
-
 -- the labels below `upto` are gone to; `before` has what was placed when the round began, and `had` how many components that were
-pub record Round (labels : List ℕ) (ds : List Device) (blocked before : List Bool) (had upto : ℕ) (placed : List Bool)
+pub record Round (labels : Labels) (ds : List Device) (blocked before : List Bool) (had upto : ℕ) (placed : List Bool)
     (nets sizes : List ℕ) (any : Bool) : Type 0 where
   pub size : length placed ≡ 128
   pub arranged : Arranged labels ds placed nets sizes
@@ -35,7 +21,7 @@ pub record Round (labels : List ℕ) (ds : List Device) (blocked before : List B
   pub more : any ≡ true → had < length sizes
   pub idle : any ≡ false → (placed ≡ before) × ((k : ℕ) → k < upto → Unplaced labels before k → marked blocked k ≡ true)
 
-pub round_same : {labels : List ℕ} {ds : List Device} {blocked before : List Bool} {had upto : ℕ} {placed placed' : List Bool}
+pub round_same : {labels : Labels} {ds : List Device} {blocked before : List Bool} {had upto : ℕ} {placed placed' : List Bool}
     {nets nets' sizes sizes' : List ℕ} {any any' : Bool}
     → placed' ≡ placed → nets' ≡ nets → sizes' ≡ sizes → any' ≡ any → Round labels ds blocked before had upto placed nets sizes any
     → Round labels ds blocked before had upto placed' nets' sizes' any'
@@ -45,7 +31,7 @@ round_same {labels} {ds} {blocked} {before} {had} {upto} {placed} {placed'} {net
     (subst (λ v. Round labels ds blocked before had upto placed nets v any') (sym s)
     (subst (Round labels ds blocked before had upto placed nets sizes) (sym a) R)))
 
-module _ (labels : List ℕ) (ds : List Device) (blocked before : List Bool) (T : Labels labels)
+module _ (labels : Labels) (ds : List Device) (blocked before : List Bool)
     (blocks : (l : ℕ) → Decides (marked blocked l) (Blocked labels ds before l)) (had : ℕ) where
   module _ (upto : ℕ) (placed : List Bool) (nets sizes : List ℕ) (any : Bool)
       (R : Round labels ds blocked before had upto placed nets sizes any) where
@@ -67,16 +53,13 @@ module _ (labels : List ℕ) (ds : List Device) (blocked before : List Bool) (T 
             (f (subst (λ b. Unplaced labels b upto) (sym (R.idle e).0) (subst (Unplaced labels before) p u)))
 
     -- a component that is not blocked waits for placed ones alone
-    free : (l : ℕ) → marked blocked l ≡ false → (d : Device) → In d ds → EndsIn labels d l → ¬ (label_of labels d.gate ≡ 0)
-        → marked placed (label_of labels d.gate) ≡ true
-    free l n d h e g =
-        ⊎_elim
-        (R.grown (label_of labels d.gate))
-        (λ f. absurd (both_ways (marked blocked l) n ((blocks l).1 (stands f))))
-        (cases_Bool (marked before (label_of labels d.gate)))
+    free : (l : ℕ) → marked blocked l ≡ false → (d : Device) → In d ds → EndsIn labels d l → (g : ℕ) → label_of labels d.gate ≡ Some g
+        → marked placed g ≡ true
+    free l n d h e g q =
+        ⊎_elim (R.grown g) (λ f. absurd (both_ways (marked blocked l) n ((blocks l).1 (stands f)))) (cases_Bool (marked before g))
       where
-        stands : marked before (label_of labels d.gate) ≡ false → Blocked labels ds before l
-        stands f = record { device = d; among = h; end = e; gate = record { inner = g; unmarked = f } }
+        stands : marked before g ≡ false → Blocked labels ds before l
+        stands f = record { device = d; among = h; end = e; gate = record { component = g; gate = q; unmarked = f } }
 
     pub round_places : Unplaced labels placed upto → marked blocked upto ≡ false
         → Round labels ds blocked before had (upto + 1) (set placed upto true) (nets ++ nets_with labels upto)
@@ -84,7 +67,7 @@ module _ (labels : List ℕ) (ds : List Device) (blocked before : List Bool) (T 
     round_places u n =
         record {
           size = length-set placed upto true ∙ R.size;
-          arranged = arranged_more labels T ds placed nets sizes R.arranged upto u R.size (free upto n);
+          arranged = arranged_more labels ds placed nets sizes R.arranged upto u R.size (free upto n);
           grown = λ k h. mark_kept placed upto k low (R.grown k h);
           least = omega (arith, R.least, length_push sizes (length (nets_with labels upto)));
           more = λ _. omega (arith, R.least, length_push sizes (length (nets_with labels upto)));
@@ -92,4 +75,4 @@ module _ (labels : List ℕ) (ds : List Device) (blocked before : List Bool) (T 
         }
       where
         low : upto < length placed
-        low = omega (arith, R.size, component_low labels T upto u.component)
+        low = omega (arith, R.size, component_low labels upto u.component)

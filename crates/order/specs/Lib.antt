@@ -1,4 +1,6 @@
+pub mod Labels
 pub mod Components
 pub mod Placing
 pub mod Found
 pub mod Left
+pub mod Reasons

@@ -5,8 +5,9 @@ pub mod components;
 pub mod find;
 mod rounds;
 
-// The nets of one component after another, and how many each has.
-#[derive(Drop)]
+// The nets of one component after another, and how many each has. All nets have one vector, and no component a vector of its
+// own, since memory is taken only when an order is made.
+#[derive(Debug, Drop)]
 pub struct Order {
     nets: Vec<u8>,
     sizes: Vec<u8>,

@@ -1,7 +1,7 @@
 -- The nets eliminated in place, one after the other: in the end each own value is the join over all paths. Assumes nothing.
-use Rattle.std.proofs.Common.{◌≡◌, ℕ, zero, suc, ◌+◌, ◌*◌, ◌<◌, ◌≤◌, true, ◌≢◌, ◌⊎◌, List, map, length, get_or, is_err, Ok, Err, Result, sym, refl, ◌∙◌, subst, inl, inr, true≢false, mul-suc, arith}
+use Rattle.std.proofs.Common.{◌≡◌, ℕ, suc, ◌+◌, ◌*◌, ◌<◌, ◌≤◌, true, ◌≢◌, ◌⊎◌, List, map, length, get_or, is_err, Ok, Err, Result, sym, refl, ◌∙◌, subst, inl, inr, true≢false, arith}
 use Rattle.std.proofs.lemmas.Nat.{mul-add-lt}
-use Rattle.std.proofs.lemmas.List.{get_or-map}
+use Rattle.std.proofs.lemmas.List.{get_or-map, length-map}
 use Rattle.cell.specs.Lists.{Every}
 use Rattle.cell.proofs.Finite.{same}
 use Rattle.algebra.specs.declared.Declined.{Declined}
@@ -10,7 +10,7 @@ use Rattle.algebra.specs.Holding.{Meaning, Stopped}
 use Rattle.paths.specs.Paths.{System, JoinOfPaths}
 use Rattle.paths.specs.Solving.{system, eliminated_below, FormedAt, FormedBy, Solved, Solving}
 use Rattle.paths.specs.Work.{Work, Ran, relaxing, rows_till}
-use Rattle.paths.proofs.Holding.{went_none, stopped_more}
+use Rattle.paths.proofs.Holding.{stopped_more}
 use Rattle.paths.proofs.Elimination.{solves}
 use Rattle.paths.proofs.Working.{Adds, ran_none, ran_then, stopped_then}
 use Rattle.paths.proofs.Systems.{Alike, alike_same, alike_back, alike_then, eliminated_alike, formed_alike, net_alike, net_into, net_out}
@@ -66,36 +66,25 @@ module _ {S V : Type 0} (keeps : V → V → Type 0) (A : Chain V) (m columns : 
         (stopped_then keeps ((m + columns) * m) _ _ _ (nets_next A m columns k some hk) before mid xs ys long first second)
 
   -- all nets are eliminated
-  pub solved : Laws A → {before after : Meaning S V} {xs ys : List S} → (m + columns) * m ≤ length xs → length ys ≡ length xs
-      → Ran keeps (eliminating A m columns m) before after xs ys → Solved keeps A m columns before after xs ys
+  pub solved : Laws A → {before after : Meaning S V} {xs ys : List S} → (m + columns) * m ≤ length xs → Ran keeps (eliminating A m columns m) before after xs ys → Solved keeps A m columns before after xs ys
   unfolding eliminating
-  solved L {before} {after} {xs} {ys} long kept r = record {
+  solved L {before} {after} {xs} {ys} long r = record {
     in_hand = r.in_hand;
     joins = λ c i d hc hi. subst (JoinOfPaths A m (system A m columns (map before.value xs) c) i) (sym (is c i d hc hi)) (solves L m (system A m columns (map before.value xs) c) i hi);
     went = r.went;
   }
     where
+      kept : length ys ≡ length xs
+      kept = sym (length-map ys after.value) ∙ r.done.0 ∙ length-map xs before.value
+
       is : (c i : ℕ) (d : S) → c < columns → i < m
           → after.value (get_or ys (i * (m + columns) + (m + c)) d) ≡ (eliminated_below A m (system A m columns (map before.value xs) c)).own i
       is c i d hc hi =
           let l : m + c < m + columns = omega arith in
-          let within : i * (m + columns) + (m + c) < length ys = omega (arith, mul-add-lt i (m + columns) (m + c) m hi l) in
+          let within : i * (m + columns) + (m + c) < length ys = omega (arith, kept, mul-add-lt i (m + columns) (m + c) m hi l) in
           sym (get_or-map after.value ys (i * (m + columns) + (m + c)) d A.zero within) ∙ (r.done.1 c hc).own i hi
-
-  -- no column
-  pub solved_none : columns ≡ 0 → (c : Meaning S V) (xs : List S) → Every (λ s. c.hand s ≡ true) xs → Solved keeps A m columns c c xs xs
-  solved_none none c xs h = record {
-    in_hand = h;
-    joins = λ d i e hd hi. absurd (omega arith);
-    went = went_none keeps c (λ v (d, k, hd, hk, f). omega arith);
-  }
 
   pub solving_err : (before after : Meaning S V) (xs ys : List S) (r : Result Unit Declined) → is_err r ≡ true
       → Stopped keeps before (FormedBy A m columns (map before.value xs)) after → Solving keeps A m columns before after xs ys r
   solving_err before after xs ys (Ok x) e h = absurd (true≢false (sym e))
   solving_err before after xs ys (Err x) e h = h
-
--- there is no net, or the width of the table is no more than its length
-pub width_fits : (m columns length : ℕ) → (m + columns) * m ≤ length → (m ≡ 0) ⊎ (m + columns ≤ length)
-width_fits zero columns length l = inl refl
-width_fits (suc m) columns length l = inr (omega (arith, mul-suc (suc m + columns) m))

@@ -1,17 +1,33 @@
 -- The turns of the two inner loops: the cells of a row, and the rows. Assumes nothing.
-use Rattle.std.proofs.Common.{◌≡◌, ℕ, ◌+◌, ◌*◌, ◌<◌, ◌≤◌, true, ◌≢◌, List, map, length, sym, ap, ◌∙◌, subst, ap₂, subst₂, arith}
+use Rattle.std.proofs.Common.{◌≡◌, ℕ, ◌+◌, ◌*◌, ◌<◌, ◌≤◌, true, ◌≢◌, List, map, length, sym, refl, ap, ◌∙◌, subst, ap₂, subst₂, arith}
 use Rattle.cell.specs.Lists.{Every}
 use Rattle.algebra.specs.Chain.{Chain}
 use Rattle.algebra.specs.Holding.{Meaning, Stopped}
+use Rattle.paths.specs.declared.Table.{Table}
+use Rattle.paths.specs.Shapes.{SameTable}
 use Rattle.paths.specs.Work.{Work, Ran, cell, relaxing, row_till, rows_till}
 use Rattle.paths.proofs.Holding.{stopped_more}
 use Rattle.paths.proofs.Working.{Adds, ran_none, ran_same, ran_then, stopped_then}
 use Rattle.paths.proofs.Cells.{relaxed_none, forms_none, relaxed_same, forms_wider, row_next, rows_next}
 
+-- a piece of work was done on the signs of a table, and it is the same table
+abbrev pub RanOn : {S V : Type 0} → (V → V → Type 0) → Work V → Meaning S V → Meaning S V → Table S → Table S → Type 0
+RanOn keeps p before after t u = Ran keeps p before after t.signs.now u.signs.now × SameTable t u
+
+pub same_refl : {S : Type 0} (t : Table S) → SameTable t t
+same_refl t = (refl, refl, refl)
+
+pub same_then : {S : Type 0} (t u v : Table S) → SameTable t u → SameTable u v → SameTable t v
+same_then t u v p q = (q.0 ∙ p.0, q.1 ∙ p.1, q.2 ∙ p.2)
+
+-- what holds at one shape holds at an equal one
+pub at_shape : {S : Type 0} (P : ℕ → ℕ → Type 0) (t u : Table S) → SameTable t u → P u.nets u.columns → P t.nets t.columns
+at_shape P t u s = subst₂ P s.1 s.2
+
 -- the same work, at equal ends
-pub ran_at : {C S V : Type 0} (keeps : V → V → Type 0) (p : Work V) (meaning : C → Meaning S V) {before : Meaning S V} {xs : List S} (new : C) (ys : List S) {new' : C} {ys' : List S}
-    → new' ≡ new → ys' ≡ ys → Ran keeps p before (meaning new) xs ys → Ran keeps p before (meaning new') xs ys'
-ran_at keeps p meaning {before} {xs} new ys e f r = subst₂ (λ c zs. Ran keeps p before (meaning c) xs zs) (sym e) (sym f) r
+pub ran_at : {C S V : Type 0} (keeps : V → V → Type 0) (p : Work V) (meaning : C → Meaning S V) {before : Meaning S V} (t : Table S) (new : C) (u : Table S) {new' : C} {u' : Table S}
+    → new' ≡ new → u' ≡ u → RanOn keeps p before (meaning new) t u → RanOn keeps p before (meaning new') t u'
+ran_at keeps p meaning {before} t new u e f r = subst₂ (λ c v. RanOn keeps p before (meaning c) t v) (sym e) (sym f) r
 
 module _ {S V : Type 0} (keeps : V → V → Type 0) (A : Chain V) (m w k : ℕ) where
   -- no cell yet

@@ -1,5 +1,5 @@
 -- Pieces of work on a table of signs, one after the other. Assumes nothing.
-use Rattle.std.proofs.Common.{◌≡◌, ℕ, ◌<◌, ◌≤◌, true, ◌⊎◌, List, [], ◌∷◌, map, length, get_or, set, is_err, Ok, Err, Result, sym, refl, ap, ◌∙◌, subst, ap₂, inl, inr, true≢false}
+use Rattle.std.proofs.Common.{◌≡◌, ℕ, ◌<◌, ◌≤◌, true, ◌⊎◌, List, [], ◌∷◌, map, length, get_or, set, is_err, Ok, Err, Result, sym, refl, ◌∙◌, subst, ap₂, inl, inr, true≢false}
 use Rattle.std.proofs.lemmas.List.{map-set, get_or-map, length-map}
 use Rattle.cell.specs.Lists.{Every}
 use Rattle.algebra.specs.declared.Declined.{Declined}
@@ -57,24 +57,31 @@ module _ {S V : Type 0} (keeps : V → V → Type 0) (A : Chain V) (m : Meaning 
   abbrev val : ℕ → V
   val i = get_or (map m.value xs) i A.zero
 
-  read : (i : ℕ) (s : S) → i < length xs → s ≡ get_or xs i s → m.value s ≡ val i
-  read i s l e = ap m.value e ∙ sym (get_or-map m.value xs i s A.zero l)
+  read : (i : ℕ) (d : S) → i < length xs → m.value (get_or xs i d) ≡ val i
+  read i d l = sym (get_or-map m.value xs i d A.zero l)
 
-  module _ {y z : S} (one : left < length xs) (two : right < length xs) (y_is : y ≡ get_or xs left y) (z_is : z ≡ get_or xs right z) where
+  -- y and z are the signs that stand there; a default stands for a place beyond the table
+  module _ (one : left < length xs) (two : right < length xs) (dy dz : S) where
+    abbrev y : S
+    y = get_or xs left dy
+
+    abbrev z : S
+    z = get_or xs right dz
+
     met : A.meet (m.value y) (m.value z) ≡ A.meet (val left) (val right)
-    met = ap₂ A.meet (read left y one y_is) (read right z two z_is)
+    met = ap₂ A.meet (read left dy one) (read right dz two)
 
     pub first_stopped : (m1 : Meaning S V) → Stopped keeps m (λ u. u ≡ A.meet (m.value y) (m.value z)) m1 → Stopped keeps m ((cell A at left right).forms (map m.value xs)) m1
     unfolding cell
     first_stopped m1 = stopped_more keeps (λ u e. inl (e ∙ met))
 
-    module _ (m1 : Meaning S V) {x t : S} (to : at < length xs) (x_is : x ≡ get_or xs at x)
+    module _ (m1 : Meaning S V) {t : S} (to : at < length xs) (dx : S)
         (p : Went keeps m (λ u. u ≡ A.meet (m.value y) (m.value z)) m1) (is : Means m1 t (A.meet (m.value y) (m.value z))) where
+      abbrev x : S
+      x = get_or xs at dx
+
       joined : A.join (m1.value x) (m1.value t) ≡ A.join (val at) (A.meet (val left) (val right))
-      joined = ap₂ A.join (p.stays.value x x_hand ∙ read at x to x_is) (is.value ∙ met)
-        where
-          x_hand : m.hand x ≡ true
-          x_hand = subst (λ s. m.hand s ≡ true) (sym x_is) (every_place (λ s. m.hand s ≡ true) xs at x to h)
+      joined = ap₂ A.join (p.stays.value x (every_place (λ s. m.hand s ≡ true) xs at dx to h) ∙ read at dx to) (is.value ∙ met)
 
       into : (u : V) → (u ≡ A.meet (m.value y) (m.value z)) ⊎ (u ≡ A.join (m1.value x) (m1.value t)) → Formed A (val at) (val left) (val right) u
       into u (inl e) = inl (e ∙ met)

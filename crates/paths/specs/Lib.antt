@@ -1,3 +1,4 @@
 pub mod Paths
 pub mod Solving
 pub mod Work
+pub mod Shapes

@@ -4,24 +4,42 @@
 // A line of data/cells.txt has a name and a drawn text, written short, with a tab between.
 #![tactic(auto)]
 
+ghost use Rattle.std.specs.Prelude.{◌≤◌};
+
 use anyhow::Context;
 use cell::State;
+use rows::letter;
 use shorthand::bytes_of;
 use station::station::Station;
 use station::station::probe::WORK;
-use std::fs;
+use std::{fs, io};
 use text::fault::Fault;
 
 // The letter of a state, or the number of the decline.
-fn print_probe(rt: &HostRuntime, answer: Result<State<bool>, Fault>) -> anyhow::Result<()> {
+fn print_probe(rt: &HostRuntime, answer: Result<State<bool>, Fault>) -> io::Result<()> {
     match answer {
-        Ok(state) => match (state.may0, state.may1) {
-            (true, true) => print!(rt; "X")?,
-            (true, false) => print!(rt; "0")?,
-            (false, true) => print!(rt; "1")?,
-            (false, false) => print!(rt; "?")?,
-        },
-        Err(fault) => print!(rt; " {}", fault.reason.number())?,
+        Ok(
+            State {
+                may0: false,
+                may1: false,
+            },
+        ) => print!(rt; "?"),
+        Ok(state) => print!(rt; "{}", char::from(letter(state))),
+        Err(fault) => print!(rt; " {}", fault.reason.number()),
+    }
+}
+
+// The states of nets 0 to 15 under every setting. A circuit that is held has at most 16 inputs.
+fn show_states(rt: &HostRuntime, station: &Station, name: &str, inputs: usize) -> io::Result<()>
+    requires { inputs ≤ 16 }
+{
+    let mut work = [false; WORK];
+    for setting in 0..1_u32 << inputs {
+        print!(rt; "{name}\t{setting}\t")?;
+        for net in 0..16 {
+            print_probe(rt, station.probe(setting, net, &mut work))?;
+        }
+        println!(rt; "")?;
     }
     Ok(())
 }
@@ -29,28 +47,15 @@ fn print_probe(rt: &HostRuntime, answer: Result<State<bool>, Fault>) -> anyhow::
 fn show(rt: &HostRuntime, station: &mut Station, line: &str) -> anyhow::Result<()> {
     let (name, drawn) = line.split_once('\t').context("no drawn text")?;
     let drawn = bytes_of(rt, drawn)?;
-    let inputs = match station.read_drawn(&drawn) {
-        Ok(inputs) => inputs as u32,
-        Err(fault) => {
-            println!(rt; "{name}\tdeclined {}", fault.reason.number())?;
-            return Ok(());
-        }
-    };
-    let mut table = [false; WORK];
-    let work = table.as_mut_slice();
-    let settings = 1_u32 << inputs.min(16);
-    for setting in 0..settings {
-        print!(rt; "{name}\t{setting}\t")?;
-        for net in 0..16 {
-            print_probe(rt, station.probe(setting, net, work))?;
-        }
-        println!(rt; "")?;
+    match station.read_drawn(&drawn) {
+        Ok(inputs) => show_states(rt, station, name, inputs)?,
+        Err(fault) => println!(rt; "{name}\tdeclined {}", fault.reason.number())?,
     }
     Ok(())
 }
 
 // What is declined, and in which order: no circuit, a short table, a net or a setting that does not exist.
-fn show_declines(rt: &HostRuntime, station: &mut Station) -> anyhow::Result<()> {
+fn show_declines(rt: &HostRuntime, station: &mut Station) -> io::Result<()> {
     let mut work = [false; WORK];
     let mut short = [false; WORK - 1];
     station
@@ -64,19 +69,14 @@ fn show_declines(rt: &HostRuntime, station: &mut Station) -> anyhow::Result<()> 
     print_probe(rt, station.probe(2, 128, &mut short))?;
     station.wipe();
     print_probe(rt, station.probe(2, 128, &mut short))?;
-    println!(rt; "")?;
-    Ok(())
-}
-
-fn run(rt: &HostRuntime) -> anyhow::Result<()> {
-    let mut station = Station::open(rt.alloc())?;
-    let cells = fs::read_to_string(rt, "cells.txt")?;
-    for line in cells.lines() {
-        show(rt, &mut station, line)?;
-    }
-    show_declines(rt, &mut station)
+    println!(rt; "")
 }
 
 fn main(rt: HostRuntime) -> anyhow::Result<()> {
-    run(&rt)
+    let mut station = Station::open(rt.alloc())?;
+    for line in fs::read_to_string(&rt, "cells.txt")?.lines() {
+        show(&rt, &mut station, line)?;
+    }
+    show_declines(&rt, &mut station)?;
+    Ok(())
 }

@@ -1,9 +1,8 @@
 -- The record that a line is. Assumes nothing.
 use Rattle.std.specs.Prelude.{◌≤◌, List, length}
-use Rattle.records.specs.declared.NetAt.{NetAt}
+use Rattle.records.specs.Formats.{Format, NetAt}
 use Rattle.records.specs.declared.Record.{Record}
 use Rattle.records.specs.declared.Record.TheVariants as records
-use Rattle.records.specs.Formats.{Format}
 use Rattle.records.specs.Records.{Entry, cell, input, output, item, finish, Proper}
 use Rattle.records.specs.Shown.{field_bytes, net_shown}
 

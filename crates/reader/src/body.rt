@@ -1,21 +1,21 @@
 // What sets the two files apart: the records of the body, and what is looked at when END is read.
-ghost use Rattle.std.specs.Prelude.{◌≡◌, ℕ, List, [], IfOk, OnOk};
+ghost use Rattle.std.specs.Prelude.{◌≡◌, ℕ, List, [], length, IfOk, OnOk};
 ghost use Rattle.cell.specs.Circuits.{Circuit};
 ghost use Rattle.text.specs.Outcomes.{map_ok, ok_with};
 ghost use Rattle.text.specs.Fields.{fields_left};
-ghost use Rattle.records.specs.declared.NetAt.{NetAt};
-ghost use Rattle.records.specs.Formats.{Format};
+ghost use Rattle.records.specs.Formats.{Format, NetAt};
 ghost use Rattle.records.specs.Records.{looked, nets_counted, Proper};
 ghost use Rattle.files.specs.Reading.{added_item};
 ghost use Rattle.reader.specs.Gathered.{Closes};
 
+use std::alloc::{AllocError, Global};
 use text::fault::Fault;
 use text::lines::{Fields, Line};
 
-pub trait Body<'a> {
+pub trait Body<'a>: Sized {
     type Kind: Copy;
     // a body record, which borrows its fields from the text
-    type Record: Copy;
+    type Record: Drop;
 
     ghost Item: { Type 0 };
 
@@ -27,6 +27,13 @@ pub trait Body<'a> {
 
     // what is kept beside the items of a circuit that was read
     ghost Kept: { Self → Circuit Item → Type 0 };
+
+    // A body without items, which takes the room for all that a file may have.
+    fn new(heap: Global) -> Result<Self, AllocError>
+        ensures { IfOk result (λ b. items b ≡ []) };
+
+    fn count(&self) -> usize
+        ensures { result ≡ length (items self.now) };
 
     fn kind(bytes: &[u8]) -> Option<Self::Kind>
         ensures { result ≡ looked format.word format.kinds bytes.now };

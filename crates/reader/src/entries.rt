@@ -1,34 +1,28 @@
 // Which record a line is, whether it is its turn, and its fields.
 ghost use Rattle.std.specs.Prelude.{◌≡◌, ◌+◌, ◌≤◌, length, IfOk, OnOk};
-ghost use Rattle.text.specs.Outcomes.{map_ok};
+ghost use Rattle.text.specs.Outcomes.{and_then, map_ok};
 ghost use Rattle.text.specs.Lines.{fields_of};
 ghost use Rattle.text.specs.Fields.{fields_left};
-ghost use Rattle.records.specs.Records.{word_of, leading_word, after_first, entry_of, record_of};
+ghost use Rattle.records.specs.Records.{word_of, single_field, net_at, leading_word, after_first, entry_of, record_of};
+ghost use Rattle.records.specs.Shown.{net_shown};
 ghost use Rattle.reader.specs.Entries.{plain, Fits};
 
 use crate::Reader;
 use crate::body::Body;
-use records::fields::{is_word, one_field, read_name, read_net};
-use records::{Record, Word};
+use records::fields::{one_field, read_name, read_net};
+use records::{Net, Record, Word};
 use text::fault::{Fault, Reason};
 use text::lines::{Fields, Line};
 
 fn read_word<'a, B: Body<'a>>(bytes: &[u8]) -> Option<Word<B::Kind>>
     ensures { result ≡ word_of B.Body.format bytes.now }
 {
-    if is_word(bytes, b"CELL") {
-        Some(Word::Cell)
-    } else if is_word(bytes, b"IN") {
-        Some(Word::In)
-    } else if is_word(bytes, b"OUT") {
-        Some(Word::Out)
-    } else if is_word(bytes, b"END") {
-        Some(Word::End)
-    } else {
-        match B::kind(bytes) {
-            Some(kind) => Some(Word::Item(kind)),
-            None => None,
-        }
+    match bytes {
+        b"CELL" => Some(Word::Cell),
+        b"IN" => Some(Word::In),
+        b"OUT" => Some(Word::Out),
+        b"END" => Some(Word::End),
+        _ => B::kind(bytes).map(Word::Item),
     }
 }
 
@@ -40,10 +34,15 @@ pub fn first_word<'a, B: Body<'a>>(
     ensures word { result ≡ leading_word B.Body.format line.now.number line.now.start (fields_left fields.old) }
     ensures left { OnOk result (fields_left fields.new ≡ after_first (fields_left fields.old)) }
 {
-    let Some(first) = fields.next() else {
-        return Err(line.fault(Reason::UnknownWord));
-    };
+    let first = fields.next().ok_or(line.fault(Reason::UnknownWord))?;
     read_word::<B>(first.bytes).ok_or(line.fault(Reason::UnknownWord))
+}
+
+// The one net after the word.
+fn one_net<'a>(line: &Line<'a>, fields: Fields<'a>) -> Result<Net<'a>, Fault>
+    ensures { map_ok net_shown result ≡ and_then (single_field line.now.number line.now.start (fields_left fields.entry)) (net_at line.now.number) }
+{
+    read_net(line, one_field(line, fields)?)
 }
 
 // The record that the fields after a word make.
@@ -60,14 +59,8 @@ fn entry<'a, B: Body<'a>>(
             let field = one_field(line, fields)?;
             Ok(Record::Cell(read_name(line, field)?))
         }
-        Word::In => {
-            let field = one_field(line, fields)?;
-            Ok(Record::In(read_net(line, field)?))
-        }
-        Word::Out => {
-            let field = one_field(line, fields)?;
-            Ok(Record::Out(read_net(line, field)?))
-        }
+        Word::In => Ok(Record::In(one_net(line, fields)?)),
+        Word::Out => Ok(Record::Out(one_net(line, fields)?)),
         Word::Item(kind) => Ok(Record::Item(B::read(line, kind, fields)?)),
         Word::End => {
             if fields.none() {

@@ -13,7 +13,7 @@ use text::lines::{Line, Lines};
 pub mod body;
 pub mod entries;
 
-#[derive(Drop)]
+#[derive(Debug, Drop)]
 pub struct Reader<'a> {
     pub lines: Lines<'a>,
     pub stage: Stage,
@@ -33,10 +33,7 @@ impl<'a> Reader<'a> {
     pub fn closed(&self) -> bool
         ensures { result ≡ if_closed self.now.stage true false }
     {
-        match self.stage {
-            Stage::Closed => true,
-            _ => false,
-        }
+        self.stage == Stage::Closed
     }
 
     // Moves on to what is read last after `word`, or declines it as out of turn.

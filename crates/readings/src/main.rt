@@ -19,15 +19,10 @@ fn show(rt: &HostRuntime, station: &mut Station, case: &str) -> anyhow::Result<(
     Ok(())
 }
 
-fn run(rt: &HostRuntime) -> anyhow::Result<()> {
+fn main(rt: HostRuntime) -> anyhow::Result<()> {
     let mut station = Station::open(rt.alloc())?;
-    let cases = fs::read_to_string(rt, "cases.txt")?;
-    for case in cases.lines() {
-        show(rt, &mut station, case)?;
+    for case in fs::read_to_string(&rt, "cases.txt")?.lines() {
+        show(&rt, &mut station, case)?;
     }
     Ok(())
-}
-
-fn main(rt: HostRuntime) -> anyhow::Result<()> {
-    run(&rt)
 }

@@ -1,7 +1,6 @@
 -- The nets of a record, field by field. Assumes nothing.
-use Rattle.std.proofs.Common.{◌≡◌, ℕ, ◌+◌, ◌<◌, List, [], ◌∷◌, ◌++◌, length, take, set, IfOk, Ok, Err, Result, sym, refl, ap, ◌∙◌, subst, append_assoc, arith}
+use Rattle.std.proofs.Common.{◌≡◌, ℕ, List, [], ◌∷◌, length, IfOk, Ok, Err, Result, sym, refl, ap, ◌∙◌, subst, arith}
 use Rattle.std.specs.Option.{ok_or}
-use Rattle.std.proofs.lemmas.List.{take_more_set}
 use Rattle.std.proofs.lemmas.Bool.{cond-false, ne_eqb}
 use Rattle.cell.specs.declared.DeviceKind.{DeviceKind}
 use Rattle.text.specs.declared.fault.Fault.{Fault}
@@ -10,9 +9,8 @@ use Rattle.text.specs.Faults.{fault}
 use Rattle.text.specs.Outcomes.{and_then, map_ok}
 use Rattle.text.specs.Lines.{Part, only_three}
 use Rattle.text.proofs.Steps.{map_ok_lem, yes_ok}
-use Rattle.records.specs.declared.NetAt.{NetAt}
+use Rattle.records.specs.Formats.{Format, NetAt}
 use Rattle.records.specs.Kinds.{device_takes}
-use Rattle.records.specs.Formats.{Format}
 use Rattle.records.specs.Records.{net_at, nets_at, nets_counted, Proper}
 use Rattle.records.proofs.Spelling.{nets_at_lem}
 
@@ -38,19 +36,6 @@ three_counted n p k (a ∷ b ∷ []) = refl
 three_counted n p k (a ∷ b ∷ c ∷ []) = steps k (net_at n a) (net_at n b) (net_at n c)
 three_counted n p k (a ∷ b ∷ c ∷ d ∷ r) =
     sym (ap (map_ok (λ xs. (k, xs))) (cond-false _ (nets_at n (a ∷ b ∷ c ∷ d ∷ r)) (Err (fault FieldCount n p)) (ne_eqb (length (a ∷ b ∷ c ∷ d ∷ r)) 3 (λ e. omega arith))))
-
--- one net more in the table
-one_more : (x : NetAt) (done : List NetAt) (r : Result (List NetAt) Fault)
-    → map_ok (λ xs. done ++ xs) (map_ok (λ xs. x ∷ xs) r) ≡ map_ok (λ xs. (done ++ x ∷ []) ++ xs) r
-one_more x done (Ok xs) = ap Ok (sym (append_assoc done (x ∷ []) xs))
-one_more x done (Err e) = refl
-
-pub net_done : (n : ℕ) (f : Part) (fs : List Part) (at : List NetAt) (i : ℕ) (x : NetAt) → i < length at → Ok x ≡ net_at n f
-    → map_ok (λ xs. take i at ++ xs) (nets_at n (f ∷ fs)) ≡ map_ok (λ xs. take (i + 1) (set at i x) ++ xs) (nets_at n fs)
-net_done n f fs at i x l e =
-    ap (λ r. map_ok (λ xs. take i at ++ xs) (and_then r (λ y. map_ok (λ xs. y ∷ xs) (nets_at n fs)))) (sym e)
-    ∙ one_more x (take i at) (nets_at n fs)
-    ∙ ap (λ done. map_ok (λ xs. done ++ xs) (nets_at n fs)) (sym (take_more_set at i x l))
 
 -- a record that is read lists as many nets as its kind takes, each a net number
 

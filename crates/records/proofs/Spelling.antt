@@ -1,5 +1,6 @@
 -- A net number has one spelling, which is a field in form, and so has a row of them. Assumes nothing.
 use Rattle.std.proofs.Common.{◌≡◌, ℕ, suc, ◌+◌, ◌-◌, ◌*◌, ◌/◌, ◌%◌, ◌<◌, ◌≤◌, true, ◌&&◌, ◌||◌, eqb, leb, List, [], ◌∷◌, ◌++◌, map, length, Some, Ok, decimal, sym, refl, ap, ◌∙◌, subst, ⊎_elim, arith}
+use Rattle.std.specs.List.{list_all}
 use Rattle.std.specs.Option.{ok_or}
 use Rattle.std.proofs.lemmas.Fmt.{decimal_digit, decimal_step}
 use Rattle.std.proofs.lemmas.Bool.{cond-true, and_parts, and_from, or_cases, leb-true, le-leb, eqb-true, cases_lt}
@@ -7,10 +8,10 @@ use Rattle.cell.specs.Circuits.{Numbered}
 use Rattle.text.specs.declared.fault.Reason.TheVariants.{BadField}
 use Rattle.text.specs.Faults.{fault}
 use Rattle.text.specs.Outcomes.{map_ok}
-use Rattle.text.specs.Lines.{Part, graphic, all_of, field_formed}
+use Rattle.text.specs.Lines.{Part, graphic, field_formed}
 use Rattle.text.proofs.Steps.{off_on, none_some, same_ok, same_some, if_some, then_ok, map_ok_lem, or_ok}
 use Rattle.text.proofs.Rows.{raw, all_imply}
-use Rattle.records.specs.declared.NetAt.{NetAt}
+use Rattle.records.specs.Formats.{NetAt}
 use Rattle.records.specs.Numbers.{net_of, spells_name, is_name_byte, digit, leading, at_most_127}
 use Rattle.records.specs.Records.{net_at, nets_at, values}
 
@@ -148,7 +149,7 @@ name_graphic b h =
 
 pub name_field : (bs : List ℕ) → spells_name bs ≡ true → field_formed bs ≡ true
 name_field [] h = off_on h
-name_field (b ∷ bs) h = all_imply is_name_byte graphic name_graphic (b ∷ bs) (and_parts _ (all_of is_name_byte (b ∷ bs)) h).1
+name_field (b ∷ bs) h = all_imply is_name_byte graphic name_graphic (b ∷ bs) (and_parts _ (list_all is_name_byte (b ∷ bs)) h).1
 
 -- the fields of a record as nets
 

@@ -2,7 +2,11 @@
 use Rattle.std.specs.Prelude.{ℕ, Bool, List, Option}
 use Rattle.text.specs.declared.fault.Reason.{Reason}
 use Rattle.cell.specs.Circuits.{Circuit}
-use Rattle.records.specs.declared.NetAt.{NetAt}
+
+-- a net number, with the place of its field in the text
+pub record NetAt : Type 0 where
+  pub place : ℕ
+  pub value : ℕ
 
 -- Kind: the kinds of record that a body has; Item: what such a record says
 pub record Format (Kind Item : Type 0) : Type 1 where

@@ -1,6 +1,6 @@
 -- Net numbers and names. Assumes nothing.
 use Rattle.std.specs.Prelude.{ℕ, ◌+◌, ◌-◌, ◌*◌, Bool, cond, ◌&&◌, ◌||◌, List, [], ◌∷◌, length, Some, None, Option, ◌==◌, nat_le}
-use Rattle.text.specs.Lines.{all_of}
+use Rattle.std.specs.List.{list_all}
 
 abbrev pub digit : ℕ → Bool
 digit b = nat_le 48 b && nat_le b 57
@@ -26,4 +26,4 @@ is_name_byte b = digit b || (nat_le 65 b && nat_le b 90) || (nat_le 97 b && nat_
 
 -- a name of 1 to 16 bytes
 abbrev pub spells_name : List ℕ → Bool
-spells_name bs = nat_le 1 (length bs) && nat_le (length bs) 16 && all_of is_name_byte bs
+spells_name bs = nat_le 1 (length bs) && nat_le (length bs) 16 && list_all is_name_byte bs

@@ -1,5 +1,6 @@
 -- The records of a file, of either kind. Assumes nothing.
 use Rattle.std.specs.Prelude.{◌≡◌, ℕ, Bool, true, false, cond, ◌||◌, List, [], ◌∷◌, map, length, Some, None, Ok, Err, codes, Option, Result}
+use Rattle.std.specs.List.{find}
 use Rattle.std.specs.Option.{ok_or, option_map}
 use Rattle.std.specs.Str.{bytes_eq}
 use Rattle.cell.specs.Circuits.{Numbered}
@@ -8,19 +9,17 @@ use Rattle.text.specs.declared.fault.Reason.TheVariants.{UnknownWord, OutOfTurn,
 use Rattle.text.specs.Faults.{fault}
 use Rattle.text.specs.Outcomes.{and_then, map_ok}
 use Rattle.text.specs.Lines.{Part, only_one, is_nil}
-use Rattle.records.specs.declared.NetAt.{NetAt}
+use Rattle.records.specs.Formats.{Format, NetAt}
 use Rattle.records.specs.declared.Stage.{Stage}
 use Rattle.records.specs.declared.Stage.TheVariants.{Opening, Inputs, Outputs, Body, Closed}
 use Rattle.records.specs.declared.Word.{Word}
 use Rattle.records.specs.declared.Word.TheVariants.{Cell, In, Out, Item, End}
 use Rattle.records.specs.Numbers.{net_of, spells_name}
-use Rattle.records.specs.Formats.{Format}
 
 -- The record words. A word is found where its bytes are the whole field.
 
 abbrev pub looked : {W : Type 0} → (W → List ℕ) → List W → List ℕ → Option W
-looked word [] bs = None
-looked word (w ∷ ws) bs = cond (bytes_eq bs (word w)) (Some w) (looked word ws bs)
+looked word ws bs = find (λ w. bytes_eq bs (word w)) ws
 
 abbrev pub head_word : {K : Type 0} → Word K → List ℕ
 head_word Cell = codes "CELL"

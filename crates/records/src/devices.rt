@@ -3,24 +3,32 @@ ghost use Rattle.std.specs.Prelude.{◌≡◌};
 ghost use Rattle.text.specs.Outcomes.{map_ok};
 ghost use Rattle.text.specs.Fields.{fields_left};
 ghost use Rattle.records.specs.Kinds.{device_kinds, device_word, device_takes};
-ghost use Rattle.records.specs.Records.{looked, nets_counted};
+ghost use Rattle.records.specs.Records.{nets_counted};
 ghost use Rattle.records.specs.Shown.{device_shown};
 
 use crate::DeviceRecord;
-use crate::fields::{is_word, read_net};
+use crate::fields::read_net;
+use crate::words::Spelled;
 use cell::DeviceKind;
 use text::fault::{Fault, Reason};
 use text::lines::{Fields, Line};
 
-pub fn device_kind(bytes: &[u8]) -> Option<DeviceKind>
-    ensures { result ≡ looked device_word device_kinds bytes.now }
-{
-    if is_word(bytes, b"N") {
-        Some(DeviceKind::N)
-    } else if is_word(bytes, b"P") {
-        Some(DeviceKind::P)
-    } else {
-        None
+static KINDS: [DeviceKind; 2] = [DeviceKind::N, DeviceKind::P];
+
+impl Spelled for DeviceKind {
+    ghost kinds = { device_kinds };
+
+    ghost spelling = { device_word };
+
+    fn all() -> &'static [DeviceKind] {
+        &KINDS
+    }
+
+    fn word(self) -> &'static [u8] {
+        match self {
+            DeviceKind::N => b"N",
+            DeviceKind::P => b"P",
+        }
     }
 }
 

@@ -1,6 +1,5 @@
 // Single fields: words, net numbers and names.
 ghost use Rattle.std.specs.Prelude.{◌≡◌, ◌≤◌, length, IfOk};
-ghost use Rattle.std.specs.Str.{bytes_eq};
 ghost use Rattle.text.specs.Outcomes.{map_ok};
 ghost use Rattle.text.specs.Lines.{part_of};
 ghost use Rattle.text.specs.Fields.{fields_left};
@@ -15,13 +14,6 @@ use text::lines::{Field, Fields, Line};
 // The most bytes of a name.
 pub const NAME: usize = 16;
 
-// Whether a field is `word`, whole.
-pub fn is_word(bytes: &[u8], word: &[u8]) -> bool
-    ensures { result ≡ bytes_eq bytes.now word.now }
-{
-    bytes == word
-}
-
 fn net_number(bytes: &[u8]) -> Option<u8>
     ensures { result ≡ net_of bytes.now }
 {
@@ -30,7 +22,7 @@ fn net_number(bytes: &[u8]) -> Option<u8>
         [a @ b'1'..=b'9', b @ b'0'..=b'9'] => Some(10 * (*a - b'0') + (*b - b'0')),
         [b'1', b @ b'0'..=b'2', c @ b'0'..=b'9'] => {
             let v = 100 + 10 * (*b - b'0') + (*c - b'0');
-            if v <= 127 { Some(v) } else { None }
+            (v <= 127).then_some(v)
         }
         _ => None,
     }
@@ -39,27 +31,16 @@ fn net_number(bytes: &[u8]) -> Option<u8>
 fn name_byte(b: u8) -> bool
     ensures { result ≡ is_name_byte b }
 {
-    match b {
-        b'0'..=b'9' => true,
-        b'A'..=b'Z' => true,
-        b'a'..=b'z' => true,
-        _ => b == b'_',
-    }
+    matches!(b, b'0'..=b'9' | b'A'..=b'Z' | b'a'..=b'z' | b'_')
 }
 
 fn is_name(bytes: &[u8]) -> bool
     ensures { result ≡ spells_name bytes.now }
 {
-    if bytes.is_empty() || bytes.len() > NAME {
-        return false;
-    }
-    for b in bytes {
-        if !name_byte(*b) {
-            return false;
-        }
-    }
-    true
+    !bytes.is_empty() && bytes.len() <= NAME && bytes.iter().all(|&b| name_byte(b))
 }
+
+// Here and in the reader a line goes beside what is left of its fields: the line is lent and stays, the fields are used up.
 
 // The one field after the word.
 pub fn one_field<'a>(line: &Line<'a>, fields: Fields<'a>) -> Result<Field<'a>, Fault>
@@ -71,10 +52,8 @@ pub fn one_field<'a>(line: &Line<'a>, fields: Fields<'a>) -> Result<Field<'a>, F
 pub fn read_net<'a>(line: &Line<'a>, field: Field<'a>) -> Result<Net<'a>, Fault>
     ensures { map_ok net_shown result ≡ net_at line.now.number (part_of field.entry) }
 {
-    match net_number(field.bytes) {
-        Some(value) => Ok(Net { field, value }),
-        None => Err(Fault::new(Reason::BadField, line.number, field.place)),
-    }
+    let value = net_number(field.bytes).ok_or(line.fault_at(Reason::BadField, field.place))?;
+    Ok(Net { field, value })
 }
 
 pub fn read_name<'a>(line: &Line<'a>, field: Field<'a>) -> Result<Field<'a>, Fault>
@@ -84,6 +63,6 @@ pub fn read_name<'a>(line: &Line<'a>, field: Field<'a>) -> Result<Field<'a>, Fau
     if is_name(field.bytes) {
         Ok(field)
     } else {
-        Err(Fault::new(Reason::BadField, line.number, field.place))
+        Err(line.fault_at(Reason::BadField, field.place))
     }
 }

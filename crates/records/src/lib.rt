@@ -2,15 +2,17 @@
 // from the text and shows each with its place, counted in bytes from 0.
 #![tactic(auto)]
 
+use arrayvec::ArrayVec;
 use cell::{DeviceKind, GateKind};
-use text::lines::{Field, Line};
+use text::lines::Field;
 
 pub mod devices;
 pub mod fields;
 pub mod gates;
+pub mod words;
 
 // What was read last.
-#[derive(Clone, Copy)]
+#[derive(Clone, Copy, Debug, PartialEq, Eq)]
 pub enum Stage {
     Opening,
     Inputs,
@@ -20,7 +22,7 @@ pub enum Stage {
 }
 
 // The record words; a body record has a kind.
-#[derive(Clone, Copy)]
+#[derive(Clone, Copy, Debug, PartialEq, Eq)]
 pub enum Word<K> {
     Cell,
     In,
@@ -29,28 +31,14 @@ pub enum Word<K> {
     End,
 }
 
-// A net number, with the place of its field in the text.
-#[derive(Clone, Copy)]
-pub struct NetAt {
-    pub place: usize,
-    pub value: u8,
-}
-
-// A net number's field, with its value.
-#[derive(Clone, Copy)]
+// A net number: its field, and its value.
+#[derive(Clone, Copy, Debug, Default, PartialEq, Eq)]
 pub struct Net<'a> {
     pub field: Field<'a>,
     pub value: u8,
 }
 
-// Up to nine nets of a record.
-#[derive(Clone, Copy)]
-pub struct Nets {
-    pub at: [NetAt; 9],
-    pub count: usize,
-}
-
-#[derive(Clone, Copy)]
+#[derive(Clone, Copy, Debug, PartialEq, Eq)]
 pub struct DeviceRecord<'a> {
     pub kind: DeviceKind,
     pub gate: Net<'a>,
@@ -58,16 +46,18 @@ pub struct DeviceRecord<'a> {
     pub right: Net<'a>,
 }
 
-// A gate: the line it borrows, and its nets there, the inputs and last the output.
-#[derive(Clone, Copy)]
+// The most nets of a record.
+pub const NETS: usize = 9;
+
+// A gate: its inputs, and last its output.
+#[derive(Clone, Debug, Drop, PartialEq, Eq)]
 pub struct GateRecord<'a> {
     pub kind: GateKind,
-    pub line: Line<'a>,
-    pub nets: Nets,
+    pub nets: ArrayVec<Net<'a>, NETS>,
 }
 
 // A record of either file; B is the body's.
-#[derive(Clone, Copy)]
+#[derive(Clone, Debug, Drop, PartialEq, Eq)]
 pub enum Record<'a, B> {
     Cell(Field<'a>),
     In(Net<'a>),

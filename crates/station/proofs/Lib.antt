@@ -1,4 +1,3 @@
-pub mod Overwriting
 pub mod Answering
 pub mod Soundness
 pub mod Usable

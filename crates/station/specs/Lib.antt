@@ -1,4 +1,3 @@
-pub mod Pages
 pub mod Reports
 pub mod Slots
 pub mod Sound

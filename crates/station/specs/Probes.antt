@@ -1,9 +1,10 @@
 -- What probing a net gives. Assumes nothing.
-use Rattle.std.specs.Prelude.{◌≡◌, ℕ, ◌+◌, ◌*◌, ◌^◌, ◌<◌, ◌≤◌, Bool, true, length, Some, None, Ok, Err, Option, Result}
+use Rattle.std.specs.Prelude.{◌≡◌, ℕ, ◌+◌, ◌*◌, ◌^◌, ◌<◌, ◌≤◌, Bool, true, List, length, Some, None, Ok, Err, Option, Result}
 use Rattle.cell.specs.declared.State.{State}
 use Rattle.cell.specs.Circuits.{Drawn}
 use Rattle.cell.specs.States.{States}
 use Rattle.algebra.specs.Holding.{Meaning, Stays}
+use Rattle.algebra.specs.Made.{Samples}
 use Rattle.algebra.specs.Kinds.{word_bit}
 use Rattle.algebra.specs.Signals.{seen}
 use Rattle.forming.specs.Signs.{side}
@@ -44,3 +45,12 @@ pub record Read {S V : Type 0} (bit : V → ℕ → Bool) (m m' : Meaning S V) (
   pub hand : (b : Bool) → m'.hand (side b st) ≡ true
   pub zero : (t : ℕ) (σ : ℕ → State Bool) → States c (seen m.listed t) σ → (σ x).may0 ≡ bit (m'.value st.may0) t
   pub one : (t : ℕ) (σ : ℕ → State Bool) → States c (seen m.listed t) σ → (σ x).may1 ≡ bit (m'.value st.may1) t
+
+-- the state of net x over the algebra of its number: what it reads after it was made for the circuit's inputs
+abbrev pub Looked : {A S V : Type 0} → (ℕ → ℕ → Type 0) → (ℕ → ℕ → List ℕ) → (A → Meaning S V) → (V → ℕ → Bool) → ℕ → ℕ → ℕ → Option Drawn
+    → Result (State S) Fault → Type 0
+Looked {A} Exists listed meaning bit size number x =
+    Answered
+    (λ c. Exists (length c.ins) number)
+    (λ c st. (made left : A) × Samples (length c.ins) (listed (length c.ins) number) (meaning made) × Read bit (meaning made) (meaning left) c x st)
+    size x

@@ -17,9 +17,6 @@ origin_word Pair = codes "pair"
 abbrev pub declined_line : Decline → List ℕ
 declined_line d = row (codes "DECLINED" ∷ origin_word d.origin ∷ decimal (number_of d.fault.reason) ∷ decimal d.fault.line ∷ decimal d.fault.place ∷ [])
 
-abbrev pub lead : Origin → List ℕ
-lead o = codes "DECLINED" ++ (9 ∷ (origin_word o ++ 9 ∷ []))
-
 -- a page of at least 64 bytes begins with the line and is else as it was, and the line's length is the answer; a shorter page is declined and left
 abbrev pub Reported : List ℕ → List ℕ → Result ℕ Fault → List ℕ → Type 0
 Reported line before (Ok n) after = (64 ≤ length before) × (n ≡ length line) × (after ≡ line ++ drop (length line) before)

@@ -1,7 +1,6 @@
 // The station: it holds at most two circuits, one drawn and one intended, and reports what came of a call.
 #![tactic(auto)]
 
-pub mod page;
 pub mod report;
 pub mod slot;
 pub mod station;

@@ -1,30 +1,41 @@
 // A circuit that may be held, and a spare one that a text is read into.
-ghost use Rattle.std.specs.Prelude.{◌≡◌, true, OnErr, OnOk};
+ghost use Rattle.std.specs.Prelude.{◌≡◌, true, false, IfOk, MatchOption, OnErr, OnOk};
 ghost use Rattle.netlist.specs.Circuits.{circuit_of};
 ghost use Rattle.station.specs.Slots.{holds, nothing, ReadsInto};
 
 use netlist::netlist::Netlist;
 use netlist::reading::read;
 use reader::body::Body;
+use std::alloc::{AllocError, Global};
 use text::fault::Fault;
 
-#[derive(Drop)]
+#[derive(Debug, Drop)]
 pub struct Slot<B> {
-    pub(crate) held: bool,
+    // A flag and no `Option` around the circuit: what is held no more leaves its room for the readings to come.
+    held: bool,
     pub(crate) current: Netlist<B>,
-    pub(crate) spare: Netlist<B>,
+    spare: Netlist<B>,
 }
 
 impl<'a, B: Body<'a>> Slot<B> {
-    // Nothing is held, and the two circuits are the room for what will be.
-    pub(crate) fn empty(current: Netlist<B>, spare: Netlist<B>) -> Slot<B>
-        ensures { holds B.Body.items result ≡ nothing }
+    // Nothing is held, and two circuits are the room for what will be.
+    pub(crate) fn new(heap: Global) -> Result<Slot<B>, AllocError>
+    where
+        B: Drop,
+        ensures { IfOk result (λ s. holds B.Body.items s ≡ nothing) }
     {
-        Slot {
+        Ok(Slot {
             held: false,
-            current,
-            spare,
-        }
+            current: Netlist::new(B::new(heap)?),
+            spare: Netlist::new(B::new(heap)?),
+        })
+    }
+
+    // The circuit that is held.
+    pub(crate) fn circuit(&self) -> Option<&Netlist<B>>
+        ensures { MatchOption result (self.now.held ≡ false) (λ c. (self.now.held ≡ true) × (c.now ≡ self.now.current)) }
+    {
+        self.held.then_some(&self.current)
     }
 
     // Reads a text into the spare circuit, which is held from then on; the number of its IN. A decline changes nothing held.

@@ -8,7 +8,7 @@ use circuits::gates::Gates;
 pub mod calls;
 pub mod probe;
 
-#[derive(Drop)]
+#[derive(Debug, Drop)]
 pub struct Station {
     drawn: Slot<Devices>,
     intended: Slot<Gates>,
@@ -16,7 +16,7 @@ pub struct Station {
 }
 
 // How much two circuits have; the ports are those of the drawn one.
-#[derive(Clone, Copy)]
+#[derive(Clone, Copy, Debug, PartialEq, Eq)]
 pub struct Summary {
     pub ins: usize,
     pub outs: usize,

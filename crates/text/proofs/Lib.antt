@@ -1,4 +1,3 @@
 pub mod Splits
-pub mod Scan
 pub mod Steps
 pub mod Rows

@@ -1,64 +1,43 @@
 -- A list cut at its first d. Assumes nothing.
-use Rattle.std.proofs.Common.{◌≡◌, ℕ, suc, ◌+◌, ◌-◌, ◌<◌, ◌≤◌, true, false, cond, eqb, List, [], ◌∷◌, length, get_or, take, drop, sym, refl, ap, ◌∙◌, subst, add_assoc, arith}
+use Rattle.std.proofs.Common.{◌≡◌, ℕ, suc, ◌+◌, ◌-◌, ◌<◌, ◌≤◌, true, false, cond, eqb, List, [], ◌∷◌, length, take, drop, sym, refl, ap, ◌∙◌, subst, add_assoc, arith, unwrap_or, ltb, Some, None, ⊎_elim, Bor, Option}
+use Rattle.std.specs.List.{onto_first}
 use native.Mathlib.Nat.{sub-zero}
-use Rattle.std.proofs.lemmas.List.{at_drop_more, drop-drop, length-take-le, take_all}
-use Rattle.std.proofs.lemmas.Bool.{eq-eqb, ne_eqb, cond-true, cond-false}
-use Rattle.text.specs.Split.{onto, split, first}
-use Rattle.text.specs.Lines.{lines_from, is_nil, formed, Malformed, placed}
-
-pub first_le : (d : ℕ) (bs : List ℕ) → first d bs ≤ length bs
-first_le d [] = omega arith
-first_le d (b ∷ bs) =
-    elim (eqb b d) as (λ t. cond t 0 (suc (first d bs)) ≤ suc (length bs)) [ true ↦ omega arith | false ↦ omega (arith, first_le d bs) ]
+use Rattle.std.proofs.lemmas.List.{drop-drop, length-take-le, take_all}
+use Rattle.std.proofs.lemmas.Bool.{lt-ltb, le-ltb, cases_lt}
+use Rattle.std.proofs.lemmas.List.Splits.{slice_split_first, slice_split_none, length-slice_split}
+use Rattle.std.proofs.lemmas.List.Sums.{fails_before_first, count_by-le-length}
+use Rattle.text.specs.Split.{split, first}
+use Rattle.text.specs.declared.lines.Fields.{Fields}
+use Rattle.text.specs.Fields.{parts_from, fields_left}
+use Rattle.text.specs.Lines.{left_len, lines_from, is_nil, formed, Malformed, placed}
 
 pub split_found : (d : ℕ) (bs : List ℕ) → first d bs < length bs → split d bs ≡ take (first d bs) bs ∷ split d (drop (first d bs + 1) bs)
-split_found d [] = λ h. absurd (omega arith)
-split_found d (b ∷ bs) =
-    elim (eqb b d) as (λ t. cond t 0 (suc (first d bs)) < suc (length bs) → cond t ([] ∷ split d bs) (onto b (split d bs)) ≡ take (cond t 0 (suc (first d bs))) (b ∷ bs) ∷ split d (drop (cond t 0 (suc (first d bs)) + 1) (b ∷ bs))) [
-      | true ↦ λ h. refl
-      | false ↦ λ h.
-          let e : suc (first d bs) + 1 ≡ suc (first d bs + 1) = omega arith in
-          ap (onto b) (split_found d bs (omega arith)) ∙ ap (λ n. (b ∷ take (first d bs) bs) ∷ split d (drop n (b ∷ bs))) (sym e)
-    ]
+split_found d bs h = slice_split_first (λ b. eqb b d) bs 0 h
 
+-- where there is no d, the list is the one part
 pub split_none : (d : ℕ) (bs : List ℕ) → length bs ≤ first d bs → split d bs ≡ bs ∷ []
-split_none d [] = λ h. refl
-split_none d (b ∷ bs) =
-    elim (eqb b d) as (λ t. suc (length bs) ≤ cond t 0 (suc (first d bs)) → cond t ([] ∷ split d bs) (onto b (split d bs)) ≡ (b ∷ bs) ∷ []) [
-      | true ↦ λ h. absurd (omega arith)
-      | false ↦ λ h. ap (onto b) (split_none d bs (omega arith))
-    ]
+split_none d bs h = slice_split_none (λ b. eqb b d) bs (λ k x l. fails_before_first (λ b. eqb b d) bs k x (omega (arith, h, l)))
+
+-- the place of the first d, or else the length, as one number
+pub found_or_length : (n m : ℕ) → n ≤ m → unwrap_or (cond (ltb n m) (Some n) None) m ≡ n
+found_or_length n m h = ⊎_elim (λ l. rw (lt-ltb n m l) refl) (λ l. rw (le-ltb n m l) (omega (arith, h, l))) (cases_lt n m)
 
 -- at most one part more than bytes
-onto_few : (b : ℕ) (q : List (List ℕ)) (n : ℕ) → length q ≤ suc n → length (onto b q) ≤ suc (suc n)
-onto_few b [] n h = omega arith
-onto_few b (p ∷ ps) n h = omega arith
-
 pub split_few : (d : ℕ) (bs : List ℕ) → length (split d bs) ≤ suc (length bs)
-split_few d [] = omega arith
-split_few d (b ∷ bs) =
-    let h = split_few d bs in
-    elim (eqb b d) as (λ t. length (cond t ([] ∷ split d bs) (onto b (split d bs))) ≤ suc (suc (length bs))) [ true ↦ omega arith | false ↦ onto_few b (split d bs) (length bs) h ]
+split_few d bs = omega (arith, length-slice_split (λ b. eqb b d) bs, count_by-le-length (λ b. eqb b d) bs)
 
 pub placed_length : (p : ℕ) (fs : List (List ℕ)) → length (placed p fs) ≡ length fs
 placed_length p [] = refl
 placed_length p (f ∷ fs) = ap suc (placed_length (p + length f + 1) fs)
 
 -- there is always a first part
-onto_cons : (P : List (List ℕ) → Type 0) → ((m : List ℕ) (ms : List (List ℕ)) → P (m ∷ ms)) → (b : ℕ) (q : List (List ℕ)) → P (onto b q)
+onto_cons : (P : List (List ℕ) → Type 0) → ((m : List ℕ) (ms : List (List ℕ)) → P (m ∷ ms)) → (b : ℕ) (q : List (List ℕ)) → P (onto_first b q)
 onto_cons P h b [] = h _ _
 onto_cons P h b (p ∷ ps) = h _ _
 
 pub split_cons : (P : List (List ℕ) → Type 0) → ((m : List ℕ) (ms : List (List ℕ)) → P (m ∷ ms)) → (d : ℕ) (bs : List ℕ) → P (split d bs)
 split_cons P h d [] = h _ _
-split_cons P h d (b ∷ bs) = elim (eqb b d) as (λ t. P (cond t ([] ∷ split d bs) (onto b (split d bs)))) [ true ↦ h _ _ | false ↦ onto_cons P h b (split d bs) ]
-
--- the search for d, at an index of the list
-pub first_at : (d : ℕ) (s : List ℕ) (i : ℕ) → i < length s → get_or s i 0 ≡ d → first d (drop i s) ≡ 0
-first_at d s i l e = at_drop_more (first d) s i 0 l ∙ cond-true _ _ _ (eq-eqb _ _ e)
-
-pub first_past : (d : ℕ) (s : List ℕ) (i : ℕ) → i < length s → (get_or s i 0 ≡ d → ⊥) → first d (drop i s) ≡ suc (first d (drop (i + 1) s))
-first_past d s i l n = at_drop_more (first d) s i 0 l ∙ cond-false _ _ _ (ne_eqb _ _ n)
+split_cons P h d (b ∷ bs) = elim (eqb b d) as (λ t. P (cond t ([] ∷ split d bs) (onto_first b (split d bs)))) [ true ↦ h _ _ | false ↦ onto_cons P h b (split d bs) ]
 
 -- a part of a list up to its first d, and what comes after it
 pub record Cut (d : ℕ) (rest bytes : List ℕ) (n : ℕ) : Type 0 where
@@ -102,3 +81,11 @@ field_cut place n rest bytes after k e =
 pub field_last : (place n : ℕ) (rest : List ℕ) → n ≡ first 9 rest → length rest ≤ n → n ≤ length rest → placed place (split 9 rest) ≡ record { place = place; bytes = take (n - 0) rest } ∷ []
 field_last place n rest e h l =
     ap (placed place) (split_none 9 rest (subst (λ m. length rest ≤ m) e h)) ∙ ap (λ b. record { place = place; bytes = b } ∷ []) (sym (ap (λ m. take m rest) (sub-zero n) ∙ take_all n rest h))
+
+-- a line has few fields
+pub fields_few : (f : Fields) → length (fields_left f) ≤ 32769
+fields_few f = omega (arith, few f.rest f.place, f.within)
+  where
+    few : (rest : Option (Bor (List ℕ))) (p : ℕ) → length (parts_from rest p) ≤ suc (left_len rest)
+    few None p = omega arith
+    few (Some r) p = omega (arith, placed_length p (split 9 r.now), split_few 9 r.now)

@@ -1,5 +1,6 @@
 -- Lines and fields of a text. Assumes nothing.
 use Rattle.std.specs.Prelude.{◌≡◌, ℕ, ◌+◌, ◌≤◌, Bool, true, false, ◌&&◌, List, [], ◌∷◌, length, drop, Some, None, Ok, Err, Option, Result, nat_le}
+use Rattle.std.specs.List.{list_all}
 use Rattle.std.specs.Borrow.{Bor}
 use Rattle.text.specs.declared.fault.Fault.{Fault}
 use Rattle.text.specs.declared.lines.Field.{Field}
@@ -16,17 +17,13 @@ abbrev pub is_nil : {X : Type 0} → List X → Bool
 is_nil [] = true
 is_nil (x ∷ xs) = false
 
-abbrev pub all_of : {X : Type 0} → (X → Bool) → List X → Bool
-all_of f [] = true
-all_of f (x ∷ xs) = f x && all_of f xs
-
 -- a field has a byte, and no foreign one
 abbrev pub field_formed : List ℕ → Bool
 field_formed [] = false
-field_formed (b ∷ bs) = all_of graphic (b ∷ bs)
+field_formed (b ∷ bs) = list_all graphic (b ∷ bs)
 
 abbrev pub formed : List ℕ → Bool
-formed l = all_of field_formed (split 9 l)
+formed l = list_all field_formed (split 9 l)
 
 -- a part of the text, with its place
 pub record Part : Type 0 where

@@ -2,7 +2,7 @@
 ghost use Rattle.std.specs.Prelude.{◌≡◌};
 ghost use Rattle.text.specs.Faults.{number_of, layer_of, fault};
 
-#[derive(Clone, Copy)]
+#[derive(Clone, Copy, Debug, PartialEq, Eq)]
 pub enum Layer {
     Text,
     Record,
@@ -10,7 +10,7 @@ pub enum Layer {
     Call,
 }
 
-#[derive(Clone, Copy)]
+#[derive(Clone, Copy, Debug, PartialEq, Eq)]
 pub enum Reason {
     TextTooLong,
     MalformedLine,
@@ -34,7 +34,7 @@ pub enum Reason {
 }
 
 impl Reason {
-    // The number that a report shows.
+    // The number that a report shows. A method, as `layer` is: a conversion would not say which of the two it gives.
     pub fn number(self) -> u8
         ensures { result ≡ number_of self }
     {
@@ -58,7 +58,7 @@ impl Reason {
     }
 }
 
-#[derive(Clone, Copy)]
+#[derive(Clone, Copy, Debug, PartialEq, Eq)]
 pub struct Fault {
     pub reason: Reason,
     pub line: usize,
@@ -77,5 +77,14 @@ impl Fault {
             place,
             layer: reason.layer(),
         }
+    }
+}
+
+// A decline of a text as a whole, or of a call, stands at no line.
+impl From<Reason> for Fault {
+    ghost from_gives = { λ reason f. f ≡ fault reason 0 0 };
+
+    fn from(reason: Reason) -> Fault {
+        Fault::new(reason, 0, 0)
     }
 }

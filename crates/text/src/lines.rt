@@ -8,14 +8,14 @@ pub mod reading;
 pub const LIMIT: usize = 32768;
 
 // A part of the text between two tabs, with its place in the text.
-#[derive(Clone, Copy)]
+#[derive(Clone, Copy, Debug, Default, PartialEq, Eq)]
 pub struct Field<'a> {
     pub bytes: &'a [u8],
     pub place: usize,
 }
 
 // A line without its line feed; `start` is its place in the text.
-#[derive(Clone, Copy)]
+#[derive(Clone, Copy, Debug, PartialEq, Eq)]
 pub struct Line<'a> {
     pub bytes: &'a [u8],
     pub number: usize,
@@ -23,7 +23,7 @@ pub struct Line<'a> {
 }
 
 // The fields that are left of a line: none, or the bytes from the next one on.
-#[derive(Clone, Copy)]
+#[derive(Clone, Copy, Debug)]
 pub struct Fields<'a> {
     rest: Option<&'a [u8]>,
     place: usize,
@@ -31,7 +31,7 @@ pub struct Fields<'a> {
 }
 
 // A reader of lines: the text, the place of the next line and its number.
-#[derive(Drop)]
+#[derive(Debug, Drop)]
 pub struct Lines<'a> {
     pub text: &'a [u8],
     pub pos: usize,

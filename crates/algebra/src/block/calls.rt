@@ -1,10 +1,11 @@
 ghost use Rattle.std.specs.Prelude.{◌≡◌, ℕ, ◌+◌, ◌-◌, ◌*◌, ◌^◌, ◌<◌, Bool, false};
+ghost use Rattle.std.specs.List.{range_with_len};
 ghost use Rattle.algebra.specs.Kinds.{functions, keeps_nothing, block_meaning, lanes, taken, word_bit};
-ghost use Rattle.algebra.specs.Made.{Made, Stretch};
+ghost use Rattle.algebra.specs.Made.{Made, Stretch, Samples};
 ghost use Rattle.std.proofs.Common.{rules, arith};
 
 use super::Block;
-use crate::{ChainAlgebra, Declined, MOST_INPUTS, SignalAlgebra, setting_count};
+use crate::{ChainAlgebra, Declined, MOST_INPUTS, Sample, SignalAlgebra, setting_count};
 use text::fault::{Fault, Reason};
 
 // The settings of a word, and how many inputs have so many.
@@ -28,16 +29,6 @@ fn pattern(p: u32) -> u64
 }
 
 impl Block {
-    // The algebra of a block of settings of at most 16 inputs.
-    pub fn new(inputs: u32, block: u32) -> Result<Block, Fault>
-        ensures { Made (Stretch inputs block) (λ b. (b.inputs ≡ inputs) × (b.block ≡ block)) result }
-    {
-        if inputs > MOST_INPUTS || block > (setting_count(inputs) - 1) / WORD_SETTINGS {
-            return Err(Fault::new(Reason::NoSuchAlgebra, 0, 0));
-        }
-        Ok(Block { inputs, block })
-    }
-
     // The number of settings that are listed.
     fn lanes(&self) -> u32
         ensures { result ≡ lanes self.now.inputs }
@@ -122,12 +113,9 @@ impl ChainAlgebra for Block {
 impl SignalAlgebra for Block {
     const COVERS: bool = false;
 
-    ghost covers = { false };
+    ghost COVERS = { false };
 
-    fn covering() -> bool {
-        Self::COVERS
-    }
-
+    // `inputs`, as `clear`, stands in each kind: an interface sees no field.
     fn inputs(&self) -> usize {
         self.inputs as usize
     }
@@ -150,5 +138,24 @@ impl SignalAlgebra for Block {
             return None;
         }
         Some(WORD_SETTINGS * self.block + word.trailing_zeros())
+    }
+}
+
+impl Sample for Block {
+    ghost Exists = { Stretch };
+
+    ghost listed = { λ n k. range_with_len (64 * k) (lanes n) };
+
+    ghost unspent = { Prim.search rules };
+
+    // The algebra of a block of settings of at most 16 inputs.
+    fn new(inputs: u32, block: u32) -> Result<Block, Fault>
+        ensures as_asked { Made (Stretch inputs block) (λ b. (b.inputs ≡ inputs) × (b.block ≡ block)) result }
+        ensures made { Made (Stretch inputs block) (λ a. Samples inputs (range_with_len (64 * block) (lanes inputs)) (block_meaning a.inputs a.block)) result }
+    {
+        if inputs > MOST_INPUTS || block > (setting_count(inputs) - 1) / WORD_SETTINGS {
+            return Err(Reason::NoSuchAlgebra.into());
+        }
+        Ok(Block { inputs, block })
     }
 }

@@ -1,23 +1,11 @@
-ghost use Rattle.std.specs.Prelude.{◌≡◌, Bool, true, false};
+ghost use Rattle.std.specs.Prelude.{◌≡◌, Bool, true, false, [], ◌∷◌};
 ghost use Rattle.algebra.specs.Kinds.{bits, keeps_nothing, point_meaning};
-ghost use Rattle.algebra.specs.Made.{Made, Setting};
+ghost use Rattle.algebra.specs.Made.{Made, Setting, Samples};
 ghost use Rattle.std.proofs.Common.{rules, arith};
 
 use super::Point;
-use crate::{ChainAlgebra, Declined, MOST_INPUTS, SignalAlgebra, setting_count};
+use crate::{ChainAlgebra, Declined, MOST_INPUTS, Sample, SignalAlgebra, setting_count};
 use text::fault::{Fault, Reason};
-
-impl Point {
-    // The algebra of a setting of at most 16 inputs.
-    pub fn new(inputs: u32, setting: u32) -> Result<Point, Fault>
-        ensures { Made (Setting inputs setting) (λ p. (p.inputs ≡ inputs) × (p.setting ≡ setting)) result }
-    {
-        if inputs > MOST_INPUTS || setting >= setting_count(inputs) {
-            return Err(Fault::new(Reason::NoSuchAlgebra, 0, 0));
-        }
-        Ok(Point { inputs, setting })
-    }
-}
 
 impl ChainAlgebra for Point {
     type Sign = bool;
@@ -62,12 +50,9 @@ impl ChainAlgebra for Point {
 impl SignalAlgebra for Point {
     const COVERS: bool = false;
 
-    ghost covers = { false };
+    ghost COVERS = { false };
 
-    fn covering() -> bool {
-        Self::COVERS
-    }
-
+    // `inputs`, as `clear`, stands in each kind: an interface sees no field.
     fn inputs(&self) -> usize {
         self.inputs as usize
     }
@@ -83,6 +68,25 @@ impl SignalAlgebra for Point {
     }
 
     fn first(&self, a: bool) -> Option<u32> {
-        if a { Some(self.setting) } else { None }
+        a.then_some(self.setting)
+    }
+}
+
+impl Sample for Point {
+    ghost Exists = { Setting };
+
+    ghost listed = { λ n s. s ∷ [] };
+
+    ghost unspent = { Prim.search rules };
+
+    // The algebra of a setting of at most 16 inputs.
+    fn new(inputs: u32, setting: u32) -> Result<Point, Fault>
+        ensures as_asked { Made (Setting inputs setting) (λ p. (p.inputs ≡ inputs) × (p.setting ≡ setting)) result }
+        ensures made { Made (Setting inputs setting) (λ a. Samples inputs (setting ∷ []) (point_meaning a.inputs a.setting)) result }
+    {
+        if inputs > MOST_INPUTS || setting >= setting_count(inputs) {
+            return Err(Reason::NoSuchAlgebra.into());
+        }
+        Ok(Point { inputs, setting })
     }
 }

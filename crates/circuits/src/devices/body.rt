@@ -6,51 +6,34 @@ ghost use Rattle.records.specs.Kinds.{device_kinds, device_word};
 ghost use Rattle.records.specs.Records.{looked};
 ghost use Rattle.records.specs.Shown.{device_shown};
 ghost use Rattle.files.specs.Files.{drawn_format};
-ghost use Rattle.circuits.specs.Bodies.{devices_of, Ordered, reason_of};
+ghost use Rattle.circuits.specs.Bodies.{devices_of, Ordered};
 
-use super::Devices;
-use cell::{Device, DeviceKind};
-use order::Obstacle;
+use super::{Devices, MOST};
+use cell::{Device, DeviceKind, DeviceList};
 use order::order::Order;
 use reader::body::Body;
 use records::DeviceRecord;
-use records::devices::{device_kind, read_device};
+use records::devices::read_device;
+use records::words::kind_of;
 use std::alloc::{AllocError, Global};
 use text::fault::{Fault, Reason};
 use text::lines::{Fields, Line};
 
-fn reason_for(obstacle: Obstacle) -> Reason
-    ensures { result ≡ reason_of obstacle }
-{
-    match obstacle {
-        Obstacle::WaitingRing => Reason::WaitingRing,
-        Obstacle::LargeComponent => Reason::LargeComponent,
-    }
-}
-
-// The most devices of a file.
-const MOST: usize = 256;
-
 impl Devices {
-    pub fn new(heap: Global) -> Result<Devices, AllocError>
-        ensures { IfOk result (λ b. devices_of b ≡ []) }
+    // The devices, as a list whose nets are known to be net numbers.
+    pub fn list(&self) -> DeviceList<'_>
+        ensures { result.devices.now ≡ devices_of self.now }
     {
-        let devices = Vec::with_capacity(heap, MOST)?;
-        let order = Order::new(heap)?;
-        Ok(Devices { devices, order })
-    }
-
-    pub fn count(&self) -> usize
-        ensures { result ≡ length (devices_of self.now) }
-    {
-        self.devices.len()
+        DeviceList {
+            devices: &self.devices,
+        }
     }
 
     pub fn as_slice(&self) -> &[Device]
         ensures items { result.now ≡ devices_of self.now }
         ensures numbered { Every (λ d. Numbered (device_nets d)) result.now }
     {
-        self.devices.as_slice()
+        &self.devices
     }
 
     // The order in which the components can be evaluated.
@@ -76,10 +59,24 @@ impl<'a> Body<'a> for Devices {
 
     ghost Kept = { Ordered };
 
+    fn new(heap: Global) -> Result<Devices, AllocError>
+        ensures { IfOk result (λ b. devices_of b ≡ []) }
+    {
+        let devices = Vec::with_capacity(heap, MOST)?;
+        let order = Order::new(heap)?;
+        Ok(Devices { devices, order })
+    }
+
+    fn count(&self) -> usize
+        ensures { result ≡ length (devices_of self.now) }
+    {
+        self.devices.len()
+    }
+
     fn kind(bytes: &[u8]) -> Option<DeviceKind>
         ensures { result ≡ looked device_word device_kinds bytes.now }
     {
-        device_kind(bytes)
+        kind_of(bytes)
     }
 
     fn read(
@@ -101,24 +98,24 @@ impl<'a> Body<'a> for Devices {
         if self.devices.len() >= MOST {
             return Err(line.fault(Reason::TooManyRecords));
         }
-        let kind = item.kind;
-        let gate = item.gate.value;
-        let left = item.left.value;
-        let right = item.right.value;
         self.devices.push_reserved(Device {
-            kind,
-            gate,
-            left,
-            right,
+            kind: item.kind,
+            gate: item.gate.value,
+            left: item.left.value,
+            right: item.right.value,
         });
         Ok(())
     }
 
     // The components can be evaluated one after another, and none is too large.
     fn close(&mut self, ins: &[u8], _outs: &[u8], line: &Line<'a>) -> Result<(), Fault> {
-        match self.order.find(ins, &self.devices) {
-            Ok(()) => Ok(()),
-            Err(obstacle) => Err(line.fault(reason_for(obstacle))),
+        let devices = DeviceList {
+            devices: &self.devices,
+        };
+        // No `map_err`: it would tell nothing of the decline, since its closure would hold the line.
+        if let Err(obstacle) = self.order.find(ins, devices) {
+            return Err(line.fault(obstacle.into()));
         }
+        Ok(())
     }
 }

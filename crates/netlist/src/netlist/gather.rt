@@ -1,45 +1,49 @@
-ghost use Rattle.std.specs.Prelude.{◌≡◌, [], IfOk, OnOk};
+ghost use Rattle.std.specs.Prelude.{◌≡◌, [], OnOk};
 ghost use Rattle.text.specs.Outcomes.{ok_with};
 ghost use Rattle.records.specs.Shown.{net_shown};
-ghost use Rattle.files.specs.Reading.{blank, member, added_in, added_out, added};
+ghost use Rattle.files.specs.Reading.{blank, added};
 ghost use Rattle.reader.specs.Entries.{plain, Fits};
 ghost use Rattle.reader.specs.Gathered.{Closes};
-ghost use Rattle.netlist.specs.Circuits.{circuit_of};
+ghost use Rattle.netlist.specs.Circuits.{circuit_of, port_added};
 
-use super::Netlist;
+use super::{Netlist, PORTS};
+use arrayvec::ArrayVec;
+use cell::is_rail;
 use reader::body::Body;
-use records::fields::NAME;
 use records::{Net, Record};
-use std::alloc::{AllocError, Global};
 use text::fault::{Fault, Reason};
 use text::lines::Line;
 
-// The most IN records of a file, and the most OUT records.
-const PORTS: usize = 16;
-
-// Whether a net is in a list of nets.
-pub fn listed(nets: &[u8], net: u8) -> bool
-    ensures { result ≡ member net nets.now }
+// Adds a port of one kind; `others` are nets that it may not be either.
+fn add_port(
+    ports: &mut ArrayVec<u8, PORTS>,
+    others: &[u8],
+    net: &Net<'_>,
+    line: &Line<'_>,
+) -> Result<(), Fault>
+    ensures { ok_with result ports.new.items ≡ port_added others.now ports.old.items line.now.number line.now.start (net_shown net.now) }
 {
-    nets.contains(&net)
+    if ports.is_full() {
+        return Err(line.fault(Reason::TooManyRecords));
+    }
+    if is_rail(net.value) || others.contains(&net.value) || ports.contains(&net.value) {
+        return Err(line.fault_at(Reason::NetNotAllowed, net.field.place));
+    }
+    ports.push(net.value);
+    Ok(())
 }
 
 impl<'a, B: Body<'a>> Netlist<B> {
     // A netlist without ports, around a body.
-    pub fn new(heap: Global, body: B) -> Result<Netlist<B>, AllocError>
-    where
-        B: Drop,
-        ensures { IfOk result (λ c. circuit_of B.Body.items c ≡ record { name = []; ins = []; outs = []; body = B.Body.items body }) }
+    pub fn new(body: B) -> Netlist<B>
+        ensures { circuit_of B.Body.items result ≡ record { name = []; ins = []; outs = []; body = B.Body.items body } }
     {
-        let name = Vec::with_capacity(heap, NAME)?;
-        let ins = Vec::with_capacity(heap, PORTS)?;
-        let outs = Vec::with_capacity(heap, PORTS)?;
-        Ok(Netlist {
-            name,
-            ins,
-            outs,
+        Netlist {
+            name: ArrayVec::new(),
+            ins: ArrayVec::new(),
+            outs: ArrayVec::new(),
             body,
-        })
+        }
     }
 
     pub fn ins(&self) -> &[u8]
@@ -63,46 +67,20 @@ impl<'a, B: Body<'a>> Netlist<B> {
         self.body.clear();
     }
 
-    fn add_in(&mut self, net: &Net<'a>, line: &Line<'a>) -> Result<(), Fault>
-        ensures { ok_with result (circuit_of B.Body.items self.new) ≡ added_in (circuit_of B.Body.items self.old) line.now.number line.now.start (net_shown net.now) }
-    {
-        if self.ins.len() >= PORTS {
-            return Err(line.fault(Reason::TooManyRecords));
-        }
-        if net.value < 2 || listed(&self.ins, net.value) {
-            return Err(Fault::new(Reason::NetNotAllowed, line.number, net.field.place));
-        }
-        self.ins.push_reserved(net.value);
-        Ok(())
-    }
-
-    fn add_out(&mut self, net: &Net<'a>, line: &Line<'a>) -> Result<(), Fault>
-        ensures { ok_with result (circuit_of B.Body.items self.new) ≡ added_out (circuit_of B.Body.items self.old) line.now.number line.now.start (net_shown net.now) }
-    {
-        if self.outs.len() >= PORTS {
-            return Err(line.fault(Reason::TooManyRecords));
-        }
-        if net.value < 2 || listed(&self.ins, net.value) || listed(&self.outs, net.value) {
-            return Err(Fault::new(Reason::NetNotAllowed, line.number, net.field.place));
-        }
-        self.outs.push_reserved(net.value);
-        Ok(())
-    }
-
     // Adds what a record says; END adds nothing.
-    pub(crate) fn add(&mut self, item: &Record<'a, B::Record>, line: &Line<'a>) -> Result<(), Fault>
-        requires { Fits B.Body.format (plain B.Body.shown item.now) }
-        ensures { ok_with result (circuit_of B.Body.items self.new) ≡ added B.Body.format (circuit_of B.Body.items self.old) line.now.number line.now.start (plain B.Body.shown item.now) }
+    pub(crate) fn add(&mut self, item: Record<'a, B::Record>, line: &Line<'a>) -> Result<(), Fault>
+        requires { Fits B.Body.format (plain B.Body.shown item) }
+        ensures { ok_with result (circuit_of B.Body.items self.new) ≡ added B.Body.format (circuit_of B.Body.items self.old) line.now.number line.now.start (plain B.Body.shown item.entry) }
     {
         match item {
             Record::Cell(field) => {
                 self.name.clear();
-                let _ = self.name.extend_from_slice(field.bytes);
+                let _ = self.name.try_extend_from_slice(field.bytes);
                 Ok(())
             }
-            Record::In(net) => self.add_in(net, line),
-            Record::Out(net) => self.add_out(net, line),
-            Record::Item(item) => self.body.add(&self.ins, item, line),
+            Record::In(net) => add_port(&mut self.ins, &[], &net, line),
+            Record::Out(net) => add_port(&mut self.outs, &self.ins, &net, line),
+            Record::Item(item) => self.body.add(&self.ins, &item, line),
             Record::End => Ok(()),
         }
     }

@@ -1,31 +1,32 @@
 // The components of an order, one after another.
-ghost use Rattle.std.specs.Prelude.{◌≡◌, [], ◌∷◌, MatchOption};
+ghost use Rattle.std.specs.Prelude.{◌≡◌};
+ghost use Rattle.std.specs.Iterator.{YieldsFirstRef, item_count};
 ghost use Rattle.order.specs.Found.{order_of};
 ghost use Rattle.order.specs.Left.{left};
 
 use super::Order;
 
 // What is left of an order: the nets of one component after another, and how many each has.
-#[derive(Drop)]
+#[derive(Debug, Drop)]
 pub struct Components<'a> {
     nets: &'a [u8],
     sizes: &'a [u8],
 }
 
-impl<'a> Components<'a> {
+impl<'a> Iterator for Components<'a> {
+    type Item = &'a [u8];
+
+    ghost next_gives = { YieldsFirstRef left };
+
+    ghost remaining = { item_count left };
+
     // The nets of the next component.
-    pub fn next(&mut self) -> Option<&'a [u8]>
-        ensures { MatchOption result (left self.old ≡ []) (λ nets. left self.old ≡ nets.now ∷ left self.new) }
-    {
+    fn next(&mut self) -> Option<&'a [u8]> {
+        let (size, sizes) = self.sizes.split_first()?;
         let nets = self.nets;
-        let sizes = self.sizes;
-        if sizes.is_empty() {
-            return None;
-        }
-        let size = (sizes[0] as usize).min(nets.len());
-        let component = &nets[0..size];
-        self.nets = &nets[size..];
-        self.sizes = &sizes[1..];
+        let (component, others) = nets.split_at(usize::from(*size).min(nets.len()));
+        self.nets = others;
+        self.sizes = sizes;
         Some(component)
     }
 }
@@ -35,8 +36,8 @@ impl Order {
         ensures { left result ≡ order_of self.now }
     {
         Components {
-            nets: self.nets.as_slice(),
-            sizes: self.sizes.as_slice(),
+            nets: &self.nets,
+            sizes: &self.sizes,
         }
     }
 }

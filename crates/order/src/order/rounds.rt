@@ -1,71 +1,106 @@
 // Components get their places in rounds: in each, those that wait for none without a place.
-ghost use Rattle.std.specs.Prelude.{◌≡◌, ℕ, ◌+◌, ◌<◌, ◌≤◌, true, false, [], ◌∷◌, ◌++◌, length, Decides};
-ghost use Rattle.cell.specs.Lists.{Every};
-ghost use Rattle.cell.specs.Circuits.{device_nets, Numbered};
-ghost use Rattle.order.specs.Components.{Labels};
+ghost use Rattle.std.specs.Prelude.{◌≡◌, ℕ, ◌+◌, ◌<◌, ◌≤◌, true, false, [], ◌∷◌, ◌++◌, length, ◌⊎◌, Some, Decides};
+ghost use Rattle.std.specs.Option.{ForSome};
+ghost use Rattle.order.specs.Components.{EachDrawn, Labelled};
 ghost use Rattle.order.specs.Placing.{nets_with, marked, Unplaced, Pending, Blocked, Stuck, nets_in, sizes_in, ArrangedIn, Complete, Ringed};
 
 use super::Order;
-use crate::labels::SOURCE;
-use cell::Device;
+use crate::NETS;
+use crate::labels::Labels;
+use cell::{Device, DeviceList};
 
-// Whether a component has the label and no place yet.
-fn is_unplaced(labels: &[u8; 128], placed: &[bool; 128], label: u8) -> bool
-    requires { label ≤ 127 }
-    ensures { Decides result (Unplaced labels.now placed.now label) }
-{
-    label != SOURCE && labels[label as usize] == label && !placed[label as usize]
+// The components of a drawn circuit, told by the labels of its nets, and which of them have their place.
+#[derive(Clone, Copy, Debug)]
+pub(super) struct Placing<'a> {
+    labels: Labels,
+    devices: &'a [Device],
+    placed: [bool; NETS],
 }
 
-// Whether the gate of a device is in a component without a place.
-fn is_pending(labels: &[u8; 128], placed: &[bool; 128], device: &Device) -> bool
-    requires { (Labels labels.now) × (Numbered (device_nets device.now)) }
-    ensures { Decides result (Pending labels.now placed.now device.now) }
+// Marks a component, if there is one.
+fn mark(table: &mut [bool; NETS], label: Option<u8>)
+    requires { ForSome label (λ l. l ≤ 127) }
+    ensures { (l : ℕ) → Decides (marked table.new l) ((label ≡ Some l) ⊎ (marked table.old l ≡ true)) }
 {
-    let gate = labels[device.gate as usize];
-    gate != SOURCE && !placed[gate as usize]
+    if let Some(label) = label {
+        table[usize::from(label)] = true;
+    }
 }
 
-// Marks each component that waits for one without a place.
-fn blocked_components(labels: &[u8; 128], devices: &[Device], placed: &[bool; 128]) -> [bool; 128]
-    requires { (Labels labels.now) × (Every (λ d. Numbered (device_nets d)) devices.now) }
-    ensures { (label : ℕ) → Decides (marked result label) (Blocked labels.now devices.now placed.now label) }
-{
-    let mut blocked = [false; 128];
-    for device in devices {
-        if is_pending(labels, placed, device) {
-            blocked[labels[device.left as usize] as usize] = true;
-            blocked[labels[device.right as usize] as usize] = true;
+impl<'a> Placing<'a> {
+    // No component has its place.
+    pub(super) fn new(ins: &[u8], devices: DeviceList<'a>) -> Placing<'a>
+        ensures devices { result.devices.now ≡ devices.entry.devices.now }
+        ensures labels { EachDrawn ins.now devices.entry.devices.now (λ c. Labelled c c.body result.labels) }
+        ensures placed { (label : ℕ) → marked result.placed label ≡ false }
+    {
+        Placing {
+            labels: Labels::new(ins, devices),
+            devices: devices.devices,
+            placed: [false; NETS],
         }
     }
-    blocked
-}
 
-// Whether every component has its place.
-fn all_placed(labels: &[u8; 128], placed: &[bool; 128]) -> bool
-    requires { Labels labels.now }
-    ensures yes { result ≡ true → (label : ℕ) → Unplaced labels.now placed.now label → ⊥ }
-    ensures not { result ≡ false → (label : ℕ) × Unplaced labels.now placed.now label }
-{
-    for label in 0..128 {
-        if is_unplaced(labels, placed, label) {
-            return false;
+    // Whether a component has the label and no place yet.
+    fn is_unplaced(&self, label: u8) -> bool
+        requires { label ≤ 127 }
+        ensures { Decides result (Unplaced self.now.labels self.now.placed label) }
+    {
+        self.labels.of(label) == Some(label) && !self.placed[usize::from(label)]
+    }
+
+    // Whether the gate of a device is in a component without a place.
+    fn is_pending(&self, device: &Device) -> bool
+        ensures { Decides result (Pending self.now.labels self.now.placed device.now) }
+    {
+        // A `match`: of a closure that reads the table nothing would be known.
+        match self.labels.of(device.gate) {
+            Some(gate) => !self.placed[usize::from(gate)],
+            None => false,
         }
     }
-    true
+
+    // Marks each component that waits for one without a place.
+    fn blocked(&self) -> [bool; NETS]
+        ensures { (label : ℕ) → Decides (marked result label) (Blocked self.now.labels self.now.devices.now self.now.placed label) }
+    {
+        let mut blocked = [false; NETS];
+        for device in self.devices {
+            if self.is_pending(device) {
+                mark(&mut blocked, self.labels.of(device.left));
+                mark(&mut blocked, self.labels.of(device.right));
+            }
+        }
+        blocked
+    }
+
+    // Whether every component has its place.
+    fn is_complete(&self) -> bool
+        ensures yes { result ≡ true → (label : ℕ) → Unplaced self.now.labels self.now.placed label → ⊥ }
+        ensures not { result ≡ false → (label : ℕ) × Unplaced self.now.labels self.now.placed label }
+    {
+        // A loop: what `all` asks of each number, that it is a net's, its closure does not know.
+        for label in 0..NETS as u8 {
+            if self.is_unplaced(label) {
+                return false;
+            }
+        }
+        true
+    }
 }
 
 impl Order {
     // The nets with the label become the next component of the order.
-    fn place(&mut self, labels: &[u8; 128], label: u8)
+    fn place(&mut self, labels: &Labels, label: u8)
         requires nets { length (nets_in self.old) + length (nets_with labels.now label) ≤ 128 }
         requires sizes { length (sizes_in self.old) < 128 }
         ensures nets { nets_in self.new ≡ nets_in self.old ++ nets_with labels.now label }
         ensures sizes { sizes_in self.new ≡ sizes_in self.old ++ length (nets_with labels.now label) ∷ [] }
     {
         let mut size = 0;
-        for net in 0..128 {
-            if labels[net as usize] == label {
+        // The number is itself what is put into the order.
+        for net in 0..NETS as u8 {
+            if labels.of(net) == Some(label) {
                 self.nets.push_reserved(net);
                 size += 1;
             }
@@ -74,25 +109,21 @@ impl Order {
     }
 
     // One round: each component that waits for none without a place gets its own. Says whether there was one.
-    fn place_round(
-        &mut self,
-        labels: &[u8; 128],
-        devices: &[Device],
-        placed: &mut [bool; 128],
-    ) -> bool
-        requires table { Labels labels.now }
-        requires numbered { Every (λ d. Numbered (device_nets d)) devices.now }
-        requires arranged { ArrangedIn labels.now devices.now placed.old self.old }
-        ensures arranged { ArrangedIn labels.now devices.now placed.new self.new }
+    fn place_round(&mut self, placing: &mut Placing) -> bool
+        requires { ArrangedIn placing.old.labels placing.old.devices.now placing.old.placed self.old }
+        ensures labels { placing.new.labels ≡ placing.old.labels }
+        ensures devices { placing.new.devices.now ≡ placing.old.devices.now }
+        ensures arranged { ArrangedIn placing.old.labels placing.old.devices.now placing.new.placed self.new }
         ensures more { result ≡ true → length (sizes_in self.old) < length (sizes_in self.new) }
-        ensures stuck { result ≡ false → Stuck labels.now devices.now placed.new }
+        ensures stuck { result ≡ false → Stuck placing.old.labels placing.old.devices.now placing.new.placed }
     {
-        let blocked = blocked_components(labels, devices, placed);
+        let blocked = placing.blocked();
         let mut any = false;
-        for label in 0..128 {
-            if is_unplaced(labels, placed, label) && !blocked[label as usize] {
-                self.place(labels, label);
-                placed[label as usize] = true;
+        // The number is itself the label, and looked up in each table.
+        for label in 0..NETS as u8 {
+            if placing.is_unplaced(label) && !blocked[usize::from(label)] {
+                self.place(&placing.labels, label);
+                placing.placed[usize::from(label)] = true;
                 any = true;
             }
         }
@@ -100,16 +131,14 @@ impl Order {
     }
 
     // Places components while there is one that can be, and says whether all of them found a place.
-    pub(super) fn place_all(&mut self, labels: &[u8; 128], devices: &[Device]) -> bool
-        requires table { Labels labels.now }
-        requires numbered { Every (λ d. Numbered (device_nets d)) devices.now }
-        ensures yes { result ≡ true → Complete labels.now devices.now self.new }
-        ensures not { result ≡ false → Ringed labels.now devices.now }
+    pub(super) fn place_all(&mut self, mut placing: Placing) -> bool
+        requires { (label : ℕ) → marked placing.placed label ≡ false }
+        ensures yes { result ≡ true → Complete placing.entry.labels placing.entry.devices.now self.new }
+        ensures not { result ≡ false → Ringed placing.entry.labels placing.entry.devices.now }
     {
         self.nets.clear();
         self.sizes.clear();
-        let mut placed = [false; 128];
-        while self.place_round(labels, devices, &mut placed) {}
-        all_placed(labels, &placed)
+        while self.place_round(&mut placing) {}
+        placing.is_complete()
     }
 }

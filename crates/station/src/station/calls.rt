@@ -12,9 +12,6 @@ ghost use Rattle.station.specs.Stations.{held, kept_order, empty, summed, PairRe
 use super::{Station, Summary};
 use crate::report::{Decline, Origin};
 use crate::slot::Slot;
-use circuits::devices::Devices;
-use circuits::gates::Gates;
-use netlist::netlist::Netlist;
 use reader::body::Body;
 use std::alloc::{AllocError, Global};
 use text::fault::Fault;
@@ -24,14 +21,12 @@ impl Station {
     pub fn open(heap: Global) -> Result<Station, AllocError>
         ensures { IfOk result (λ s. held s ≡ empty) }
     {
-        let current = Netlist::new(heap, Devices::new(heap)?)?;
-        let spare = Netlist::new(heap, Devices::new(heap)?)?;
-        let drawn = Slot::empty(current, spare);
-        let current = Netlist::new(heap, Gates::new(heap)?)?;
-        let spare = Netlist::new(heap, Gates::new(heap)?)?;
-        let intended = Slot::empty(current, spare);
+        let drawn = Slot::new(heap)?;
+        let intended = Slot::new(heap)?;
         Ok(Station { drawn, intended })
     }
+
+    // Two calls of a line each, since a user says which of the two texts it is, and only a drawn circuit has an order.
 
     // Reads a drawn circuit in place of the held one, with an order in which its components can be evaluated.
     pub fn read_drawn(&mut self, text: &[u8]) -> Result<usize, Fault>
@@ -70,26 +65,19 @@ impl Station {
     pub fn outs(&self) -> Option<&[u8]>
         ensures { OutsOf (held self.now).drawn result }
     {
-        if self.drawn.held {
-            Some(self.drawn.current.outs())
-        } else {
-            None
-        }
+        Some(self.drawn.circuit()?.outs())
     }
 
     // How much the two circuits have.
     fn summary(&self) -> Summary
         ensures { result ≡ summed (circuit_of devices_of self.now.drawn.current) (circuit_of gates_of self.now.intended.current) }
     {
-        let ins = self.drawn.current.ins().len();
-        let outs = self.drawn.current.outs().len();
-        let devices = self.drawn.current.body.count();
-        let gates = self.intended.current.body.count();
+        let drawn = &self.drawn.current;
         Summary {
-            ins,
-            outs,
-            devices,
-            gates,
+            ins: drawn.ins().len(),
+            outs: drawn.outs().len(),
+            devices: drawn.body.count(),
+            gates: self.intended.current.body.count(),
         }
     }
 
@@ -97,18 +85,14 @@ impl Station {
     pub fn read_pair(&mut self, drawn: &[u8], intended: &[u8]) -> Result<Summary, Decline>
         ensures { PairRead drawn.now intended.now (held self.old) result (held self.new) }
     {
-        match self.read_drawn(drawn) {
-            Err(fault) => Err(Decline {
-                origin: Origin::Drawn,
-                fault,
-            }),
-            Ok(_) => match self.read_intended(intended) {
-                Err(fault) => Err(Decline {
-                    origin: Origin::Intended,
-                    fault,
-                }),
-                Ok(_) => Ok(self.summary()),
-            },
-        }
+        self.read_drawn(drawn).map_err(|fault| Decline {
+            origin: Origin::Drawn,
+            fault,
+        })?;
+        self.read_intended(intended).map_err(|fault| Decline {
+            origin: Origin::Intended,
+            fault,
+        })?;
+        Ok(self.summary())
     }
 }

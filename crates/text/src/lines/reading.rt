@@ -1,8 +1,9 @@
-ghost use Rattle.std.specs.Prelude.{◌≡◌, ◌+◌, ◌-◌, ◌<◌, ◌≤◌, [], ◌∷◌, length, MatchOption, MatchResult};
+ghost use Rattle.std.specs.Prelude.{◌≡◌, ◌+◌, ◌-◌, ◌<◌, ◌≤◌, [], ◌∷◌, length, MatchResult};
 ghost use Rattle.std.specs.Option.{option_map};
+ghost use Rattle.std.specs.Iterator.{YieldsFirstBy, item_count};
 ghost use Rattle.text.specs.Faults.{fault};
 ghost use Rattle.text.specs.Split.{first};
-ghost use Rattle.text.specs.Lines.{graphic as is_graphic, formed as is_formed, fields_of, part_of, NextLine, only_one, only_three, three_parts, is_nil};
+ghost use Rattle.text.specs.Lines.{graphic as is_graphic, field_formed, formed as is_formed, fields_of, part_of, NextLine, only_one, only_three, three_parts, is_nil};
 ghost use Rattle.text.specs.Fields.{fields_left};
 
 use super::{Field, Fields, LIMIT, Line, Lines};
@@ -13,41 +14,26 @@ fn until(s: &[u8], b: u8) -> usize
     ensures value { result ≡ first b s.now }
     ensures bound { result ≤ length s.now }
 {
-    for (i, x) in s.iter().enumerate() {
-        if *x == b {
-            return i;
-        }
-    }
-    s.len()
+    s.iter().position(|&x| x == b).unwrap_or(s.len())
 }
 
 fn graphic(b: u8) -> bool
     ensures { result ≡ is_graphic b }
 {
-    match b {
-        33..=126 => true,
-        _ => false,
-    }
+    matches!(b, 33..=126)
 }
 
-// Fields are not empty, and their bytes are 33 to 126.
+// A field is not empty, and its bytes are 33 to 126.
+fn is_field(bytes: &[u8]) -> bool
+    ensures { result ≡ field_formed bytes.now }
+{
+    !bytes.is_empty() && bytes.iter().all(|&b| graphic(b))
+}
+
 fn formed(bytes: &[u8]) -> bool
     ensures { result ≡ is_formed bytes.now }
 {
-    let mut empty = true;
-    for b in bytes {
-        if *b == b'\t' {
-            if empty {
-                return false;
-            }
-            empty = true;
-        } else if graphic(*b) {
-            empty = false;
-        } else {
-            return false;
-        }
-    }
-    !empty
+    bytes.split(|&b| b == b'\t').all(is_field)
 }
 
 impl<'a> Line<'a> {
@@ -65,14 +51,25 @@ impl<'a> Line<'a> {
     pub fn fault(&self, reason: Reason) -> Fault
         ensures { result ≡ fault reason self.now.number self.now.start }
     {
-        Fault::new(reason, self.number, self.start)
+        self.fault_at(reason, self.start)
+    }
+
+    // A decline at a place in the line.
+    pub fn fault_at(&self, reason: Reason, place: usize) -> Fault
+        ensures { result ≡ fault reason self.now.number place }
+    {
+        Fault::new(reason, self.number, place)
     }
 }
 
-impl<'a> Fields<'a> {
-    pub fn next(&mut self) -> Option<Field<'a>>
-        ensures { MatchOption result (fields_left self.old ≡ []) (λ f. fields_left self.old ≡ part_of f ∷ fields_left self.new) }
-    {
+impl<'a> Iterator for Fields<'a> {
+    type Item = Field<'a>;
+
+    ghost next_gives = { YieldsFirstBy part_of fields_left };
+
+    ghost remaining = { item_count fields_left };
+
+    fn next(&mut self) -> Option<Field<'a>> {
         let rest = self.rest?;
         let place = self.place;
         let n = until(rest, b'\t');
@@ -90,7 +87,9 @@ impl<'a> Fields<'a> {
         }
         Some(field)
     }
+}
 
+impl<'a> Fields<'a> {
     // Whether no field is left.
     pub fn none(mut self) -> bool
         ensures { result ≡ is_nil (fields_left self.entry) }
@@ -98,7 +97,14 @@ impl<'a> Fields<'a> {
         self.next().is_none()
     }
 
-    // The one field that is left.
+    // How many fields are left.
+    pub fn count(self) -> usize
+        ensures { result ≡ length (fields_left self.entry) }
+    {
+        Iterator::count(self)
+    }
+
+    // The one field that is left. `one` and `three` take their fields by a pattern that names each, which an array of them would not.
     pub fn one(mut self) -> Option<Field<'a>>
         ensures { option_map part_of result ≡ only_one (fields_left self.entry) }
     {
@@ -118,17 +124,6 @@ impl<'a> Fields<'a> {
         };
         Some((a, b, c))
     }
-
-    // How many fields are left.
-    pub fn count(mut self) -> usize
-        ensures { result ≡ length (fields_left self.entry) }
-    {
-        let mut n = 0;
-        while let Some(_) = self.next() {
-            n += 1;
-        }
-        n
-    }
 }
 
 // Declines a text of more than 32,768 bytes.
@@ -136,7 +131,7 @@ pub fn sized(text: &[u8]) -> Result<(), Fault>
     ensures { MatchResult result (λ _. length text.now ≤ 32768) (λ f. (32768 < length text.now) × (f ≡ fault Reason.TextTooLong 0 0)) }
 {
     if text.len() > LIMIT {
-        return Err(Fault::new(Reason::TextTooLong, 0, 0));
+        return Err(Reason::TextTooLong.into());
     }
     Ok(())
 }
@@ -153,7 +148,7 @@ impl<'a> Lines<'a> {
         }
     }
 
-    // The next line, without its line feed; none where the text ends.
+    // The next line, without its line feed; none where the text ends. No iterator's step: a line that is not in form ends a reading by `?`.
     pub fn next_line(&mut self) -> Result<Option<Line<'a>>, Fault>
         ensures gives { NextLine self.old.text.now self.old.pos self.old.line result self.new.pos self.new.line }
         ensures same { self.new.text.now ≡ self.old.text.now }

@@ -1,5 +1,6 @@
-use Rattle.forming.proofs.Clearing.{ClearTo}
+use Rattle.std.proofs.Common.{◌≡◌, ℕ, ◌<◌, get_or}
 use Rattle.forming.proofs.tables.clear_cells.Given as goal
 
+-- the cells before this one are zero
 abbrev pub invariant-loop-cell : goal.invariant-loop-cell
-invariant-loop-cell g l = let a = g.A.ChainAlgebra in ClearTo a.ops (a.meaning l.alg) l.cell l.initial.table l.table
+invariant-loop-cell g l = (k : ℕ) (d : g.row.A-Sign.Denot) → k < l.cell-index → get_or l.cell-items k d ≡ l.zero

@@ -1,15 +1,17 @@
-use Rattle.std.proofs.Common.{◌≡◌, ◌-◌, length, take, ◌∙◌, subst, arith, length-set}
+use Rattle.std.proofs.Common.{◌≡◌, ◌≤◌, map, length, sym, ap, ◌∙◌, arith}
+use Rattle.std.proofs.lemmas.List.{take_all}
+use Rattle.records.specs.declared.Net.{Net}
 use Rattle.records.specs.Records.{values}
-use Rattle.circuits.proofs.Gating.{input_more, gate_made}
+use Rattle.records.specs.Shown.{nets_shown}
+use Rattle.files.specs.Files.{gate_from}
+use Rattle.circuits.proofs.Gating.{gate_made}
 use Rattle.circuits.proofs.gates.body.gate_of.Goals as goal
-
-pub loop-i-preserved : goal.loop-i-preserved
-loop-i-preserved c = (
-  input_more c.loop-i.inputs c.args.nets.now c.loop-i.i _ (omega (arith, c.loop-i.invariant.1)) (omega arith) c.loop-i.invariant.0,
-  length-set _ _ _ ∙ c.loop-i.invariant.1,
-)
 
 pub returns : goal.returns
 returns c =
-    let here : c.loop-i.i ≡ length c.args.nets.now - 1 = omega arith in
-    gate_made c.args.kind c.loop-i.inputs c.args.nets.now _ c.requires.some (subst (λ m. take m c.loop-i.inputs ≡ take m (values c.args.nets.now)) here c.loop-i.invariant.0)
+    let kind = c.args.kind in
+    let others = c.in-Some.others.now in
+    let output = c.in-Some.output.now in
+    let done : length others ≤ c.loop-net.net-index = omega arith in
+    let inputs : c.loop-net.inputs.items ≡ map (λ (x : Net). x.value) others = c.loop-net.invariant ∙ ap (map (λ (x : Net). x.value)) (take_all c.loop-net.net-index others done) in
+    ap (λ xs. record { kind = kind; inputs = xs; output = output.value }) inputs ∙ sym (gate_made kind others output) ∙ ap (λ ns. gate_from kind (values (nets_shown ns))) (sym c.in-Some.ensures.cases.0)

@@ -1,6 +1,6 @@
-use Rattle.std.proofs.Common.{◌≡◌, length, take}
-use Rattle.records.specs.Records.{values}
+use Rattle.std.proofs.Common.{◌≡◌, map, take}
+use Rattle.records.specs.declared.Net.{Net}
 use Rattle.circuits.proofs.gates.body.gate_of.Given as goal
 
-abbrev pub invariant-loop-i : goal.invariant-loop-i
-invariant-loop-i l = (take l.i l.inputs ≡ take l.i (values l.nets)) × (length l.inputs ≡ 8)
+abbrev pub invariant-loop-net : goal.invariant-loop-net
+invariant-loop-net l = l.inputs.items ≡ map (λ (x : Net). x.value) (take l.net-index l.others)

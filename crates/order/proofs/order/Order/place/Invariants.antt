@@ -4,8 +4,11 @@ use Rattle.order.proofs.order.Order.place.Given as goal
 
 abbrev pub invariant-loop-net : goal.invariant-loop-net
 invariant-loop-net l =
-    (nets_in l.self ≡ nets_in l.initial.self ++ nets_below l.labels l.label l.net)
-    × (vec_len l.self.nets ≡ length (nets_in l.initial.self) + length (nets_below l.labels l.label l.net))
-    × (128 ≤ vec_capacity l.self.nets)
-    × (l.self.sizes ≡ l.initial.self.sizes)
-    × (l.size ≡ length (nets_below l.labels l.label l.net))
+    let placed = nets_below l.labels l.label l.net in
+    record {
+      nets : nets_in l.self ≡ nets_in l.initial.self ++ placed;
+      len : vec_len l.self.nets ≡ length (nets_in l.initial.self) + length placed;
+      room : 128 ≤ vec_capacity l.self.nets;
+      sizes : l.self.sizes ≡ l.initial.self.sizes;
+      size : l.size ≡ length placed;
+    }

@@ -1,9 +1,15 @@
-use Rattle.std.proofs.Common.{length}
+use Rattle.std.proofs.Common.{◌≡◌, length}
 use Rattle.order.specs.Placing.{nets_in, sizes_in}
 use Rattle.order.proofs.Round.{Round}
 use Rattle.order.proofs.order.Order.place_round.Given as goal
 
 abbrev pub invariant-loop-label : goal.invariant-loop-label
 invariant-loop-label l =
-    Round l.labels l.devices l.blocked l.initial.placed (length (sizes_in l.initial.self)) l.label l.placed
-    (nets_in l.self) (sizes_in l.self) l.any
+    let start = l.initial.placing in
+    record {
+      labels : l.placing.labels ≡ start.labels;
+      devices : l.placing.devices.now ≡ start.devices.now;
+      round :
+          Round start.labels start.devices.now l.blocked start.placed (length (sizes_in l.initial.self)) l.label l.placing.placed
+          (nets_in l.self) (sizes_in l.self) l.any;
+    }

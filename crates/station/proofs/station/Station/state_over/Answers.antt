@@ -1,4 +1,4 @@
-use Rattle.std.proofs.Common.{sym, subst, arith}
+use Rattle.std.proofs.Common.{sym, subst}
 use Rattle.cell.specs.Lists.{Every}
 use Rattle.cell.specs.Circuits.{Numbered}
 use Rattle.order.specs.Found.{order_of}
@@ -12,17 +12,13 @@ form_states-requires g c =
     let facts = usable c.args.self.now.drawn c.args.self.now.sound c.requires.held in
     record {
       ins = subst Numbered (sym c.ins.ensures) facts.numbered;
-      devices = c.as_slice-devices.ensures.numbered;
       order = subst (λ o. Every Formable (order_of o)) (sym c.order-order.ensures) facts.formable;
-      states = omega (arith, c.split_at_mut-states.ensures.front_len);
-      may = omega (arith, c.split_at_mut-may.ensures.front_len);
-      sure = omega (arith, c.requires.work, c.split_at_mut-states.ensures.back_len, c.split_at_mut-may.ensures.back_len);
     }
 
 pub returns : goal.returns
 returns g c =
     read_state g.A.ChainAlgebra.bit (g.A.ChainAlgebra.meaning c.args.alg.now) (g.A.ChainAlgebra.meaning c.form_states.new.alg)
     c.args.self.now.drawn c.args.self.now.sound c.requires.held
-    c.ins.result.now c.as_slice-devices.result.now c.order-order.result.now c.form_states.new.states
-    c.ins.ensures c.as_slice-devices.ensures.items c.order-order.ensures c.requires.inputs c.in_ok-form_states.ensures
-    c.args.net c.state_at.result c.requires.net c.state_at.ensures
+    c.ins.result.now c.list-devices.result.devices.now c.order-order.result.now c.form_states.new.work.states.signs.now
+    c.ins.ensures c.list-devices.ensures c.order-order.ensures c.requires.inputs c.in_ok-form_states.ensures.formed
+    c.args.net c.at.result c.requires.net c.at.ensures

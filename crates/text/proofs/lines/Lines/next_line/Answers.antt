@@ -1,12 +1,8 @@
 use Rattle.std.proofs.Common.{◌≡◌, ◌+◌, ◌-◌, ◌<◌, length, take, drop, sym, refl, ap, ◌∙◌, arith}
-use Rattle.std.proofs.lemmas.List.{take_rest, length-drop, drop_all}
-use Rattle.text.specs.Split.{split}
+use Rattle.std.proofs.lemmas.List.{take_rest, length-drop}
 use Rattle.text.proofs.Splits.{cut_at, line_cut, line_last, malformed_last, malformed_line}
 use Rattle.text.proofs.lines.Lines.next_line.Goals as goal
 use Rattle.text.proofs.lines.Lines.next_line.Goals.{then-n-rest-via-then-n-rest, then-n-rest-via-else-n-rest+then-not-formed}
-
-pub returns-then-self : goal.returns-then-self
-returns-then-self c = record { gives = (ap (split 10) (drop_all _ _ c.if-self.true), refl, refl); same = refl }
 
 pub returns-then-n-rest : goal.returns-then-n-rest
 returns-then-n-rest c =

@@ -1,20 +1,13 @@
-use Rattle.std.proofs.Common.{arith}
-use Rattle.std.proofs.lemmas.List.{at_drop_all}
-use Rattle.text.specs.Split.{first}
-use Rattle.text.proofs.Splits.{first_at, first_past}
+use Rattle.std.proofs.Common.{eqb, length, rules, ◌∙◌, ap}
+use Rattle.std.specs.Option.{unwrap_or}
+use Rattle.std.proofs.lemmas.Iterator.{YieldsList-from_slice}
+use Rattle.std.proofs.lemmas.Iterator.Search.{position_from_yields_List}
+use Rattle.std.proofs.lemmas.List.Sums.{prefix_len-le-length}
+use Rattle.text.proofs.Splits.{found_or_length}
 use Rattle.text.proofs.lines.reading.until.Goals as goal
 
-pub returns-then-x-b : goal.returns-then-x-b
-returns-then-x-b c =
-    let z = first_at c.args.b c.args.s.now c.loop-i.i c.loop-i-test.true c.if-x-b.true in
-    record { value = omega (arith, c.loop-i.invariant, z); bound = omega arith }
-
-pub loop-i-preserved : goal.loop-i-preserved
-loop-i-preserved c =
-    let z = first_past c.args.b c.args.s.now c.loop-i.i c.loop-i-test.true c.if-x-b.false in
-    omega (arith, c.loop-i.invariant, z)
-
-pub returns : goal.returns
-returns c =
-    let z = at_drop_all (first c.args.b) c.args.s.now c.loop-i.i c.loop-i-test.false in
-    record { value = omega (arith, c.loop-i.invariant, z); bound = omega arith }
+pub returns-clause-value : goal.returns-clause-value
+returns-clause-value c =
+    let s = c.args.s.now in
+    let at = position_from_yields_List (λ x. eqb x c.args.b) _ _ c.position.result c.position.ensures.ran (YieldsList-from_slice s c.iter.ensures.rest) (λ x b q k. search rules) in
+    c.unwrap_or.ensures ∙ ap (λ r. unwrap_or r (length s)) at ∙ found_or_length _ _ (prefix_len-le-length _ s)

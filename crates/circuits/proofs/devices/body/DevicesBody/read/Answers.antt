@@ -4,8 +4,5 @@ use Rattle.records.proofs.Counted.{shown_proper}
 use Rattle.files.specs.Files.{drawn_format}
 use Rattle.circuits.proofs.devices.body.DevicesBody.read.Goals as goal
 
-pub returns : goal.returns
-returns c = record {
-  gives = c.read_device.ensures;
-  proper = shown_proper drawn_format device_shown c.args.kind c.args.line.now.number c.args.line.now.start (fields_left c.args.fields) c.read_device.result c.read_device.ensures;
-}
+pub returns-clause-proper : goal.returns-clause-proper
+returns-clause-proper c = shown_proper drawn_format device_shown c.args.kind c.args.line.now.number c.args.line.now.start (fields_left c.args.fields) c.read_device.result c.read_device.ensures

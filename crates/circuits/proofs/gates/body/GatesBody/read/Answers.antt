@@ -4,8 +4,5 @@ use Rattle.records.proofs.Counted.{shown_proper}
 use Rattle.files.specs.Files.{intended_format}
 use Rattle.circuits.proofs.gates.body.GatesBody.read.Goals as goal
 
-pub returns : goal.returns
-returns c = record {
-  gives = c.read_gate.ensures.gives;
-  proper = shown_proper intended_format gate_shown c.args.kind c.args.line.now.number c.args.line.now.start (fields_left c.args.fields) c.read_gate.result c.read_gate.ensures.gives;
-}
+pub returns-clause-proper : goal.returns-clause-proper
+returns-clause-proper c = shown_proper intended_format gate_shown c.args.kind c.args.line.now.number c.args.line.now.start (fields_left c.args.fields) c.read_gate.result c.read_gate.ensures
