@@ -1,9 +1,7 @@
-use Rattle.std.proofs.Common.{sym, refl, ◌∙◌, true, false, subst, inl, inr, rules}
+use Rattle.std.proofs.Common.{refl, ◌∙◌, true, false, subst, inl, inr, rules}
 use Rattle.std.proofs.lemmas.Result.{MatchResult-weaker}
 use Rattle.forming.specs.Systems.{Reached}
 use Rattle.paths.proofs.Holding.{stays_same, stays_then}
-use Rattle.forming.specs.Signs.{InHand}
-use Rattle.forming.proofs.Keeping.{hand_stays}
 use Rattle.forming.proofs.Raising.{raised_at}
 use Rattle.forming.proofs.Marking.{marks_may, marks_sure, marks_state, marks_stay, marks_meet, end_numbered}
 use Rattle.forming.proofs.Taking.{takes_at, take_idle, take_link, take_drive}
@@ -17,11 +15,6 @@ returns-in_default-clause-taken g c =
     take_idle a.ops a.bit m c.args.work.now.states.signs.now c.args.component.nets.now c.args.device.now
     c.args.component.formable.distinct hand.states hand.may hand.sure (stays_same m) (inr c.in_default.ensures)
 
-pub join_link-requires-clause-hand : goal.join_link-requires-clause-hand
-join_link-requires-clause-hand g c =
-    subst (InHand (g.A.ChainAlgebra.meaning c.complement.new.self)) (sym c.table_of.ensures.1)
-    (hand_stays c.in_ok-surely.ensures.2.0.stays c.args.work.now.may.now c.requires.hand.may)
-
 pub join_link-requires-clause-sign : goal.join_link-requires-clause-sign
 join_link-requires-clause-sign g c =
     let a = g.A.ChainAlgebra in
@@ -29,27 +22,6 @@ join_link-requires-clause-sign g c =
     let conducts = marks_may a.bit (a.meaning c.args.alg.now) states.signs.now states.size c.requires.hand.states c.args.device.now c.requires.device
     c.conducts_at-opens.result c.conducts_at-opens.ensures c.sign-conducts.result (c.sign-conducts.ensures _) in
     c.in_ok-surely.ensures.2.0.stays.hand _ conducts.hand
-
-pub join_link-requires-in-Link-clause-hand : goal.join_link-requires-in-Link-clause-hand
-join_link-requires-in-Link-clause-hand g c =
-    subst (InHand (g.A.ChainAlgebra.meaning c.join_link.new.alg)) (sym c.table_of-in-Link.ensures.1)
-    (hand_stays (stays_then c.in_ok-surely.ensures.2.0.stays c.in_ok-join_link-in-Link.ensures.raised.stays) c.args.work.now.sure.now c.requires.hand.sure)
-
-pub join_cell-requires-clause-hand : goal.join_cell-requires-clause-hand
-join_cell-requires-clause-hand g c =
-    subst (InHand (g.A.ChainAlgebra.meaning c.meet.new.self)) (sym c.table_of-may.ensures.1)
-    (hand_stays (stays_then c.in_ok-surely.ensures.2.0.stays c.in_ok-one-in-Drive.ensures.0.stays) c.args.work.now.may.now c.requires.hand.may)
-
-pub join_cell-requires-in-Drive-clause-hand : goal.join_cell-requires-in-Drive-clause-hand
-join_cell-requires-in-Drive-clause-hand g c =
-    hand_stays c.in_ok-zero-in-Drive.ensures.0.stays _ c.in_ok-join_cell-in-Drive.ensures.raised.hand
-
-pub join_cell-requires-in-Drive-2-clause-hand : goal.join_cell-requires-in-Drive-2-clause-hand
-join_cell-requires-in-Drive-2-clause-hand g c =
-    let till = stays_then (stays_then c.in_ok-one-in-Drive.ensures.0.stays c.in_ok-join_cell-in-Drive.ensures.raised.stays)
-    (stays_then c.in_ok-zero-in-Drive.ensures.0.stays c.in_ok-join_cell-in-Drive-2.ensures.raised.stays) in
-    subst (InHand (g.A.ChainAlgebra.meaning c.join_cell-in-Drive.new.alg)) (sym c.table_of-in-Drive.ensures.1)
-    (hand_stays (stays_then c.in_ok-surely.ensures.2.0.stays till) c.args.work.now.sure.now c.requires.hand.sure)
 
 pub returns-in_ok-join_link-in-Link-clause-taken : goal.returns-in_ok-join_link-in-Link-clause-taken
 returns-in_ok-join_link-in-Link-clause-taken g c =
