@@ -1,5 +1,5 @@
 -- Components placed one after another: the next one keeps the order, and there is room for all. Assumes nothing.
-use Rattle.std.proofs.Common.{◌≡◌, ℕ, ◌+◌, ◌<◌, ◌≤◌, Bool, true, ◌↔◌, None, Some, List, [], ◌∷◌, ◌++◌, map, length, set, sym, refl, ap, ◌∙◌, subst, inl, inr, ⊎_elim, arith, length-append}
+use Rattle.std.proofs.Common.{◌≡◌, ℕ, ◌+◌, ◌<◌, ◌≤◌, Bool, true, false, cond, get_or, ◌↔◌, None, Some, List, [], ◌∷◌, ◌++◌, map, length, set, sym, refl, ap, ◌∙◌, subst, inl, inr, ⊎_elim, arith, length-append}
 use Rattle.std.proofs.lemmas.List.{get_or_past, map_push, flat_map_more, length-map, length_push}
 use Rattle.std.proofs.lemmas.Bool.{both_ways, cases_lt}
 use Rattle.std.proofs.lemmas.Option.{none-some, same_Some}
@@ -62,11 +62,15 @@ module _ (labels : Labels) where
   sizes_push ls l = ap (map length) (map_push (nets_with labels) ls l) ∙ map_push length (map (nets_with labels) ls) (nets_with labels l)
 
   pub label_low : (x l : ℕ) → label_of labels x ≡ Some l → l ≤ 127
-  label_low x l e =
-      ⊎_elim
-      (λ h. labels.numbers x None h l e)
-      (λ h. absurd (none-some l (sym (get_or_past labels.by_net x None h) ∙ e)))
-      (cases_lt x (length labels.by_net))
+  label_low x l e = go (get_or labels.inner x false) e
+    where
+      low : get_or labels.numbers x 0 ≤ 127
+      low =
+          ⊎_elim (λ h. labels.low x 0 h) (λ h. subst (λ n. n ≤ 127) (sym (get_or_past labels.numbers x 0 h)) (omega arith)) (cases_lt x (length labels.numbers))
+
+      go : (b : Bool) → cond b (Some (get_or labels.numbers x 0)) None ≡ Some l → l ≤ 127
+      go false e = absurd (none-some l e)
+      go true e = subst (λ n. n ≤ 127) (same_Some (get_or labels.numbers x 0) l e) low
 
   pub component_low : (l : ℕ) → IsComponent labels l → l < 128
   component_low l i = omega (arith, label_low l l i.own)

@@ -33,7 +33,15 @@ Renames from to before after = (x : ℕ) → label_of after x ≡ renamed from t
 -- the ends of one more device get one label
 module _ (c : Drawn) (low : Low c.body) (ds : List Device) (labels : Labels) (L : Labelled c ds labels)
     (d : Device) (here : In d c.body) where
-  -- nothing is to do where an end is a source
+  -- nothing is to do where the ends have one label
+  pub joined_same : label_of labels d.left ≡ label_of labels d.right → Labelled c (ds ++ d ∷ []) labels
+  joined_same q = record { source = L.source; inner = L.inner; joined = λ e h i j. go e i j (in_push e ds d h) }
+    where
+      go : (e : Device) → Inner c e.left → Inner c e.right → In e ds ⊎ (e ≡ d) → label_of labels e.left ≡ label_of labels e.right
+      go e i j (inl h) = L.joined e h i j
+      go e i j (inr p) = subst (λ (v : Device). label_of labels v.left ≡ label_of labels v.right) (sym p) q
+
+  -- or where an end is a source
   pub joined_source : (label_of labels d.left ≡ None) ⊎ (label_of labels d.right ≡ None) → Labelled c (ds ++ d ∷ []) labels
   joined_source z = record { source = L.source; inner = L.inner; joined = λ e h i j. go e i j z (in_push e ds d h) }
     where

@@ -1,5 +1,5 @@
 -- The nets with a label: which they are, that they rise, and how many they are at most. Assumes nothing.
-use Rattle.std.proofs.Common.{◌≡◌, ℕ, zero, suc, ◌+◌, ◌-◌, ◌<◌, ◌≤◌, true, false, ◌≢◌, Some, List, [], ◌∷◌, ◌++◌, length, sym, refl, ap, ◌∙◌, subst, inl, inr, ⊎_elim, add-zero, add-one, arith}
+use Rattle.std.proofs.Common.{◌≡◌, ℕ, zero, suc, ◌+◌, ◌-◌, ◌<◌, ◌≤◌, Bool, true, false, ◌≢◌, Some, List, [], ◌∷◌, ◌++◌, length, sym, refl, ap, ◌∙◌, subst, inl, inr, ⊎_elim, add-zero, add-one, arith}
 use Rattle.std.proofs.lemmas.List.{append-nil, length_push}
 use Rattle.std.proofs.lemmas.Bool.{cases_Bool, cond-true, cond-false}
 use Rattle.cell.specs.Lists.{In, Distinct, Rising}
@@ -7,7 +7,7 @@ use Rattle.cell.proofs.Finite.{same, few}
 use Rattle.order.specs.declared.labels.Labels.{Labels}
 use Rattle.order.specs.Labels.{is_label}
 use Rattle.order.specs.Components.{label_of}
-use Rattle.order.specs.Placing.{nets_below, nets_with}
+use Rattle.order.specs.Placing.{nets_below, nets_with, marked, OthersAlone}
 use Rattle.order.proofs.Tests.{same_label, is_label-true, is_label-false}
 use Rattle.cell.proofs.Members.{in_left, in_right, in_push}
 
@@ -118,3 +118,17 @@ module _ (labels : Labels) (label : ℕ) where
       let m : (n + 1) + (128 - (n + 1)) ≡ 128 = omega arith in
       let r = subst (λ v. length (nets_below labels label (n + 1)) ≤ length (nets_below labels label v)) m (below_rises (n + 1) (128 - (n + 1))) in
       omega (arith, r, ap length (below_with n e), length_push (nets_below labels label n) n)
+
+-- a rising list of one number
+one_number : (xs : List ℕ) (y : ℕ) → Rising xs → ((x : ℕ) → In x xs → x ≡ y) → In y xs → xs ≡ y ∷ []
+one_number [] y r f h = absurd h
+one_number (x ∷ []) y r f h = ap (λ v. v ∷ []) (f x (inl refl))
+one_number (x ∷ z ∷ xs) y r f h = absurd (omega (arith, r.0 z (inl refl), f x (inl refl), f z (inr (inl refl))))
+
+-- the nets of a component that has one
+pub nets_alone : (labels : Labels) (shared : List Bool) (label : ℕ) → OthersAlone labels shared → label_of labels label ≡ Some label → label ≤ 127
+    → marked shared label ≡ false → nets_with labels label ≡ label ∷ []
+nets_alone labels shared label alone own low m =
+    one_number (nets_with labels label) label (nets_rising labels label)
+    (λ x h. let n = nets_are labels label x h in alone x label (omega (arith, n.0)) n.1 m)
+    (nets_all labels label label (omega arith) own)

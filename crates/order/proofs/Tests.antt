@@ -1,9 +1,10 @@
 -- Whether a label is there and is a given one. Assumes nothing.
-use Rattle.std.proofs.Common.{◌≡◌, ℕ, ◌≤◌, ◌≢◌, true, false, ◌⊎◌, Option, None, Some, refl, ap, sym, ◌∙◌, subst, inl, inr, ⊎_elim}
-use Rattle.std.proofs.lemmas.Bool.{eq-eqb, ne_eqb, cond-true, cond-false}
+use Rattle.std.proofs.Common.{◌≡◌, ℕ, ◌<◌, ◌≤◌, ◌≢◌, Bool, true, false, cond, eqb, ◌⊎◌, List, map, length, get_or, Option, None, Some, refl, ap, ◌∙◌, inl, inr, ⊎_elim, arith}
+use Rattle.std.proofs.lemmas.List.{get_or-map, get_or_past}
+use Rattle.std.proofs.lemmas.Bool.{eq-eqb, ne_eqb, cond-true, cond-false, both_ways, cases_lt}
 use Rattle.std.proofs.lemmas.Option.{none-some, same_Some}
 use Rattle.cell.proofs.Finite.{same}
-use Rattle.order.specs.Labels.{is_label, renamed}
+use Rattle.order.specs.Labels.{is_label, renamed, renumbered}
 
 pub same_label : (o : Option ℕ) (label : ℕ) → (o ≡ Some label) ⊎ (o ≢ Some label)
 same_label None label = inr (λ e. none-some label e)
@@ -23,9 +24,22 @@ renamed_from from to o e = cond-true (is_label o from) (Some to) o (is_label-tru
 pub renamed_other : (from to : ℕ) (o : Option ℕ) → o ≢ Some from → renamed from to o ≡ o
 renamed_other from to o ne = cond-false (is_label o from) (Some to) o (is_label-false o from ne)
 
-pub renamed_number : (from to : ℕ) (o : Option ℕ) (x : ℕ) → to ≤ 127 → ((n : ℕ) → o ≡ Some n → n ≤ 127) → renamed from to o ≡ Some x → x ≤ 127
-renamed_number from to o x low lows e =
-    ⊎_elim
-    (λ q. subst (λ n. n ≤ 127) (same_Some to x (sym (renamed_from from to o q) ∙ e)) low)
-    (λ ne. lows x (sym (renamed_other from to o ne) ∙ e))
-    (same_label o from)
+-- the number of a net that has a label
+pub renumbered_low : (from to n : ℕ) → to ≤ 127 → n ≤ 127 → renumbered from to n ≤ 127
+renumbered_low from to n t l = elim (eqb n from) as (λ b. cond b to n ≤ 127) [ true ↦ t | false ↦ l ]
+
+renumbered_is : (from to n : ℕ) → Some (renumbered from to n) ≡ renamed from to (Some n)
+renumbered_is from to n = elim (eqb n from) as (λ b. Some (cond b to n) ≡ cond b (Some to) (Some n)) [ true ↦ refl | false ↦ refl ]
+
+pub relabelled : (from to : ℕ) (numbers items : List ℕ) (inner : List Bool) (x : ℕ) → length numbers ≡ 128 → length inner ≡ 128
+    → items ≡ map (renumbered from to) numbers
+    → cond (get_or inner x false) (Some (get_or items x 0)) None ≡ renamed from to (cond (get_or inner x false) (Some (get_or numbers x 0)) None)
+relabelled from to numbers items inner x long wide is = go (get_or inner x false) refl
+  where
+    low : get_or inner x false ≡ true → x < length numbers
+    low e = ⊎_elim (λ h. omega (arith, h, long)) (λ h. absurd (both_ways _ (get_or_past inner x false (omega (arith, h, wide))) e)) (cases_lt x 128)
+
+    go : (b : Bool) → get_or inner x false ≡ b → cond b (Some (get_or items x 0)) None ≡ renamed from to (cond b (Some (get_or numbers x 0)) None)
+    go false e = refl
+    go true e =
+        ap Some (ap (λ xs. get_or xs x 0) is ∙ get_or-map (renumbered from to) numbers x 0 0 (low e)) ∙ renumbered_is from to (get_or numbers x 0)

@@ -1,6 +1,6 @@
 -- Components told by labels: each net from 0 to 127 may have a label, and the nets of one component have the same.
 -- Assumes nothing.
-use Rattle.std.specs.Prelude.{◌≡◌, ℕ, ◌≤◌, List, [], ◌∷◌, ◌++◌, Option, None, Some, slice_index_or}
+use Rattle.std.specs.Prelude.{◌≡◌, ℕ, ◌≤◌, false, cond, List, [], ◌∷◌, ◌++◌, Option, None, Some, slice_index_or}
 use Rattle.cell.specs.declared.Device.{Device}
 use Rattle.cell.specs.Lists.{In, Every}
 use Rattle.cell.specs.Circuits.{Drawn, device_nets, Numbered}
@@ -12,7 +12,7 @@ abbrev pub EachDrawn : List ℕ → List Device → (Drawn → Type 0) → Type 
 EachDrawn ins devices Q = (name outs : List ℕ) → Q (record { name = name; ins = ins; outs = outs; body = devices })
 
 abbrev pub label_of : Labels → ℕ → Option ℕ
-label_of labels x = slice_index_or labels.by_net x None
+label_of labels x = cond (slice_index_or labels.inner x false) (Some (slice_index_or labels.numbers x 0)) None
 
 -- A source has no label, and an inner net the number of a net of its component. The ends of each of the devices have one
 -- label where both are inner.

@@ -9,3 +9,7 @@ is_label o label = option_eq nat_eq o (Some label)
 -- the label `from` becomes `to`
 abbrev pub renamed : ℕ → ℕ → Option ℕ → Option ℕ
 renamed from to o = cond (is_label o from) (Some to) o
+
+-- the number `from` becomes `to`
+abbrev pub renumbered : ℕ → ℕ → ℕ → ℕ
+renumbered from to n = cond (nat_eq n from) to n

@@ -19,6 +19,10 @@ nets_with labels label = nets_below labels label 128
 abbrev pub marked : List Bool → ℕ → Bool
 marked table label = slice_index_or table label false
 
+-- a label that is not marked is that of one net, its own
+abbrev pub OthersAlone : Labels → List Bool → Type 0
+OthersAlone labels shared = (x label : ℕ) → x ≤ 127 → label_of labels x ≡ Some label → marked shared label ≡ false → x ≡ label
+
 -- the label of a component is the number of a net that has this label itself
 pub record IsComponent (labels : Labels) (label : ℕ) : Type 0 where
   pub own : label_of labels label ≡ Some label

@@ -1,19 +1,23 @@
 // Labels that tell the components of a drawn circuit apart: inner nets have the same label exactly when devices link them
 // through inner nets.
-ghost use Rattle.std.specs.Prelude.{◌≡◌, ℕ, ◌<◌, ◌≤◌, ◌⊎◌, List, [], All, Decides};
+ghost use Rattle.std.specs.Prelude.{◌≡◌, ℕ, ◌<◌, ◌≤◌, ◌⊎◌, List, [], length, All, Decides};
 ghost use Rattle.std.specs.Option.{ForSome};
 ghost use Rattle.cell.specs.declared.Device.{Device};
 ghost use Rattle.cell.specs.Lists.{In};
-ghost use Rattle.order.specs.Labels.{renamed};
+ghost use Rattle.order.specs.Labels.{renamed, renumbered};
 
 use crate::NETS;
 use cell::{Device, DeviceList, is_rail};
 
-// The label of each net, the number of a net of its component. A source is in no component.
+// The label of each inner net, the number of a net of its component. A source is in no component, and its number tells nothing. The two
+// stand apart, and not as options, so that the numbers of many nets are renamed at a time.
 #[derive(Clone, Copy, Debug, PartialEq, Eq)]
 pub(crate) struct Labels {
-    by_net: [Option<u8>; NETS],
-    ghost numbers: { All (λ label. ForSome label (λ net. net ≤ 127)) by_net },
+    numbers: [u8; NETS],
+    inner: [bool; NETS],
+    ghost low: { All (λ number. number ≤ 127) numbers },
+    ghost long: { length numbers ≡ 128 },
+    ghost wide: { length inner ≡ 128 },
 }
 
 // Rails and inputs are sources.
@@ -23,11 +27,11 @@ fn is_source(net: u8, ins: &[u8]) -> bool
     is_rail(net) || ins.contains(&net)
 }
 
-// A label where the label `from` becomes `to`.
-fn renamed(label: Option<u8>, from: u8, to: u8) -> Option<u8>
-    ensures { result ≡ renamed from to label }
+// A number where `from` becomes `to`.
+fn renumbered(number: u8, from: u8, to: u8) -> u8
+    ensures { result ≡ renumbered from to number }
 {
-    if label == Some(from) { Some(to) } else { label }
+    if number == from { to } else { number }
 }
 
 impl Labels {
@@ -37,14 +41,14 @@ impl Labels {
     fn own(ins: &[u8]) -> Labels
         ensures { (devices : List Device) → EachDrawn ins.now devices (λ c. Labelled c [] result) }
     {
-        let mut by_net = [None; NETS];
+        let mut numbers = [0; NETS];
+        let mut inner = [false; NETS];
         // The number is itself the label.
         for net in 0..NETS as u8 {
-            if !is_source(net, ins) {
-                by_net[usize::from(net)] = Some(net);
-            }
+            numbers[usize::from(net)] = net;
+            inner[usize::from(net)] = !is_source(net, ins);
         }
-        Labels { by_net }
+        Labels { numbers, inner }
     }
 
     // The label of a net.
@@ -52,7 +56,12 @@ impl Labels {
         ensures label { result ≡ label_of self.now net }
         ensures number { ForSome result (λ label. label ≤ 127) }
     {
-        self.by_net.get(usize::from(net)).copied().flatten()
+        let net = usize::from(net);
+        if net < NETS && self.inner[net] {
+            Some(self.numbers[net])
+        } else {
+            None
+        }
     }
 
     // One component is joined to another: its nets take the other's label.
@@ -60,8 +69,8 @@ impl Labels {
         requires { to ≤ 127 }
         ensures { (x : ℕ) → label_of self.new x ≡ renamed from to (label_of self.old x) }
     {
-        for label in &mut self.by_net {
-            *label = renamed(*label, from, to);
+        for number in &mut self.numbers {
+            *number = renumbered(*number, from, to);
         }
     }
 
@@ -75,7 +84,10 @@ impl Labels {
         let Some(right) = self.of(device.right) else {
             return;
         };
-        self.rename(left, right);
+        // Once for each two components that are joined: ends with one label need none.
+        if left != right {
+            self.rename(left, right);
+        }
     }
 
     // Inner nets linked by the devices get one label.

@@ -2,7 +2,7 @@
 ghost use Rattle.std.specs.Prelude.{◌≡◌, ℕ, ◌+◌, ◌<◌, ◌≤◌, true, false, [], ◌∷◌, ◌++◌, length, ◌⊎◌, Some, Decides};
 ghost use Rattle.std.specs.Option.{ForSome};
 ghost use Rattle.order.specs.Components.{EachDrawn, Labelled};
-ghost use Rattle.order.specs.Placing.{nets_with, marked, Unplaced, Pending, Blocked, Stuck, nets_in, sizes_in, ArrangedIn, Complete, Ringed};
+ghost use Rattle.order.specs.Placing.{nets_with, marked, Unplaced, Pending, Blocked, Stuck, nets_in, sizes_in, ArrangedIn, Complete, Ringed, OthersAlone};
 
 use super::Order;
 use crate::NETS;
@@ -15,6 +15,8 @@ pub(super) struct Placing<'a> {
     labels: Labels,
     devices: &'a [Device],
     placed: [bool; NETS],
+    // Which have more nets than the one whose number is the label.
+    shared: [bool; NETS],
 }
 
 // Marks a component, if there is one.
@@ -27,17 +29,36 @@ fn mark(table: &mut [bool; NETS], label: Option<u8>)
     }
 }
 
+// Marks each component with more nets than the one whose number is the label.
+fn shared(labels: &Labels) -> [bool; NETS]
+    ensures { OthersAlone labels.now result }
+{
+    let mut shared = [false; NETS];
+    // The number is itself compared with the label.
+    for net in 0..NETS as u8 {
+        let label = labels.of(net);
+        if label != Some(net) {
+            mark(&mut shared, label);
+        }
+    }
+    shared
+}
+
 impl<'a> Placing<'a> {
     // No component has its place.
     pub(super) fn new(ins: &[u8], devices: DeviceList<'a>) -> Placing<'a>
         ensures devices { result.devices.now ≡ devices.entry.devices.now }
         ensures labels { EachDrawn ins.now devices.entry.devices.now (λ c. Labelled c c.body result.labels) }
         ensures placed { (label : ℕ) → marked result.placed label ≡ false }
+        ensures shared { OthersAlone result.labels result.shared }
     {
+        let labels = Labels::new(ins, devices);
+        let shared = shared(&labels);
         Placing {
-            labels: Labels::new(ins, devices),
+            labels,
             devices: devices.devices,
             placed: [false; NETS],
+            shared,
         }
     }
 
@@ -91,7 +112,7 @@ impl<'a> Placing<'a> {
 
 impl Order {
     // The nets with the label become the next component of the order.
-    fn place(&mut self, labels: &Labels, label: u8)
+    fn place_nets(&mut self, labels: &Labels, label: u8)
         requires nets { length (nets_in self.old) + length (nets_with labels.now label) ≤ 128 }
         requires sizes { length (sizes_in self.old) < 128 }
         ensures nets { nets_in self.new ≡ nets_in self.old ++ nets_with labels.now label }
@@ -108,10 +129,40 @@ impl Order {
         self.sizes.push_reserved(size);
     }
 
+    // One net becomes the next component.
+    fn place_net(&mut self, net: u8)
+        requires number { net ≤ 127 }
+        requires nets { length (nets_in self.old) < 128 }
+        requires sizes { length (sizes_in self.old) < 128 }
+        ensures nets { nets_in self.new ≡ nets_in self.old ++ net ∷ [] }
+        ensures sizes { sizes_in self.new ≡ sizes_in self.old ++ 1 ∷ [] }
+    {
+        self.nets.push_reserved(net);
+        self.sizes.push_reserved(1);
+    }
+
+    // The component with a label becomes the next. Most have one net, and no other is looked for.
+    fn place(&mut self, labels: &Labels, shared: bool, label: u8)
+        requires number { label ≤ 127 }
+        requires alone { shared ≡ false → nets_with labels.now label ≡ label ∷ [] }
+        requires nets { length (nets_in self.old) + length (nets_with labels.now label) ≤ 128 }
+        requires sizes { length (sizes_in self.old) < 128 }
+        ensures nets { nets_in self.new ≡ nets_in self.old ++ nets_with labels.now label }
+        ensures sizes { sizes_in self.new ≡ sizes_in self.old ++ length (nets_with labels.now label) ∷ [] }
+    {
+        if shared {
+            self.place_nets(labels, label);
+        } else {
+            self.place_net(label);
+        }
+    }
+
     // One round: each component that waits for none without a place gets its own. Says whether there was one.
     fn place_round(&mut self, placing: &mut Placing) -> bool
-        requires { ArrangedIn placing.old.labels placing.old.devices.now placing.old.placed self.old }
+        requires arranged { ArrangedIn placing.old.labels placing.old.devices.now placing.old.placed self.old }
+        requires shared { OthersAlone placing.old.labels placing.old.shared }
         ensures labels { placing.new.labels ≡ placing.old.labels }
+        ensures shared { placing.new.shared ≡ placing.old.shared }
         ensures devices { placing.new.devices.now ≡ placing.old.devices.now }
         ensures arranged { ArrangedIn placing.old.labels placing.old.devices.now placing.new.placed self.new }
         ensures more { result ≡ true → length (sizes_in self.old) < length (sizes_in self.new) }
@@ -122,7 +173,7 @@ impl Order {
         // The number is itself the label, and looked up in each table.
         for label in 0..NETS as u8 {
             if placing.is_unplaced(label) && !blocked[usize::from(label)] {
-                self.place(&placing.labels, label);
+                self.place(&placing.labels, placing.shared[usize::from(label)], label);
                 placing.placed[usize::from(label)] = true;
                 any = true;
             }
@@ -132,7 +183,8 @@ impl Order {
 
     // Places components while there is one that can be, and says whether all of them found a place.
     pub(super) fn place_all(&mut self, mut placing: Placing) -> bool
-        requires { (label : ℕ) → marked placing.placed label ≡ false }
+        requires placed { (label : ℕ) → marked placing.placed label ≡ false }
+        requires shared { OthersAlone placing.labels placing.shared }
         ensures yes { result ≡ true → Complete placing.entry.labels placing.entry.devices.now self.new }
         ensures not { result ≡ false → Ringed placing.entry.labels placing.entry.devices.now }
     {

@@ -1,12 +1,12 @@
 use Rattle.std.proofs.Common.{◌≡◌, ◌≤◌, ◌++◌, length, map, take, drop, All}
-use Rattle.std.specs.Option.{ForSome}
-use Rattle.order.specs.Labels.{renamed}
+use Rattle.order.specs.Labels.{renumbered}
 use Rattle.order.proofs.labels.Labels.rename.Given as goal
 
-abbrev pub invariant-loop-label : goal.invariant-loop-label
-invariant-loop-label l =
+abbrev pub invariant-loop-number : goal.invariant-loop-number
+invariant-loop-number l =
     record {
-      long : length l.label-items ≡ 128;
-      renamed_before : l.label-items ≡ map (renamed l.from l.to) (take l.label-index l.fn.self.by_net) ++ drop l.label-index l.fn.self.by_net;
-      numbers : All (λ label. ForSome label (λ net. net ≤ 127)) l.label-items;
+      long : length l.number-items ≡ 128;
+      renamed_before :
+          l.number-items ≡ map (renumbered l.from l.to) (take l.number-index l.fn.self.numbers) ++ drop l.number-index l.fn.self.numbers;
+      low : All (λ number. number ≤ 127) l.number-items;
     }

@@ -1,5 +1,5 @@
 use Rattle.std.proofs.Common.{◌≡◌, ◌-◌, length}
-use Rattle.order.specs.Placing.{ArrangedIn, sizes_in}
+use Rattle.order.specs.Placing.{ArrangedIn, OthersAlone, sizes_in}
 use Rattle.order.proofs.order.Order.place_all.Given as goal
 
 abbrev pub invariant-loop : goal.invariant-loop
@@ -8,6 +8,7 @@ invariant-loop l =
     record {
       labels : l.placing.labels ≡ start.labels;
       devices : l.placing.devices.now ≡ start.devices.now;
+      shared : OthersAlone l.placing.labels l.placing.shared;
       arranged : ArrangedIn l.placing.labels l.placing.devices.now l.placing.placed l.self;
     }
 

@@ -9,6 +9,7 @@ invariant-loop-label l =
     record {
       labels : l.placing.labels ≡ start.labels;
       devices : l.placing.devices.now ≡ start.devices.now;
+      shared : l.placing.shared ≡ start.shared;
       round :
           Round start.labels start.devices.now l.blocked start.placed (length (sizes_in l.initial.self)) l.label l.placing.placed
           (nets_in l.self) (sizes_in l.self) l.any;

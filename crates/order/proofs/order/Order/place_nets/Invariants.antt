@@ -1,6 +1,6 @@
 use Rattle.std.proofs.Common.{◌≡◌, ◌+◌, ◌≤◌, ◌++◌, length, vec_len, vec_capacity}
 use Rattle.order.specs.Placing.{nets_below, nets_in}
-use Rattle.order.proofs.order.Order.place.Given as goal
+use Rattle.order.proofs.order.Order.place_nets.Given as goal
 
 abbrev pub invariant-loop-net : goal.invariant-loop-net
 invariant-loop-net l =
