@@ -1,5 +1,5 @@
 -- Work tables: what tables are made of them, that all their signs are in hand, and that they are one before and after. Assumes nothing.
-use Rattle.std.specs.Prelude.{◌≡◌, ℕ, List}
+use Rattle.std.specs.Prelude.{◌≡◌, ℕ, List, length}
 use Rattle.std.specs.Borrow.{MutBor}
 use Rattle.algebra.specs.Holding.{Meaning}
 use Rattle.paths.specs.declared.Table.{Table}
@@ -16,9 +16,11 @@ pub record WorkInHand {S V : Type 0} (m : Meaning S V) (w : WorkTable S) : Type 
   pub may : InHand m w.may.now
   pub sure : InHand m w.sure.now
 
--- the same lent signs
+-- the same lent signs, and as many
 abbrev pub SameWork : {S : Type 0} → WorkTable S → WorkTable S → Type 0
-SameWork w v = (v.states.signs.ghost_name ≡ w.states.signs.ghost_name) × (v.may.ghost_name ≡ w.may.ghost_name) × (v.sure.ghost_name ≡ w.sure.ghost_name)
+SameWork w v =
+    (v.states.signs.ghost_name ≡ w.states.signs.ghost_name) × (v.may.ghost_name ≡ w.may.ghost_name) × (v.sure.ghost_name ≡ w.sure.ghost_name)
+    × (length v.may.now ≡ length w.may.now) × (length v.sure.now ≡ length w.sure.now)
 
 -- the same, and the states of the nets are as they were
 abbrev pub SameStates : {S : Type 0} → WorkTable S → WorkTable S → Type 0

@@ -15,10 +15,10 @@ abbrev pub RanOn : {S V : Type 0} → (V → V → Type 0) → Work V → Meanin
 RanOn keeps p before after t u = Ran keeps p before after t.signs.now u.signs.now × SameTable t u
 
 pub same_refl : {S : Type 0} (t : Table S) → SameTable t t
-same_refl t = (refl, refl, refl)
+same_refl t = (refl, refl, refl, refl)
 
 pub same_then : {S : Type 0} (t u v : Table S) → SameTable t u → SameTable u v → SameTable t v
-same_then t u v p q = (q.0 ∙ p.0, q.1 ∙ p.1, q.2 ∙ p.2)
+same_then t u v p q = (q.0 ∙ p.0, q.1 ∙ p.1, q.2 ∙ p.2, q.3 ∙ p.3)
 
 -- what holds at one shape holds at an equal one
 pub at_shape : {S : Type 0} (P : ℕ → ℕ → Type 0) (t u : Table S) → SameTable t u → P u.nets u.columns → P t.nets t.columns

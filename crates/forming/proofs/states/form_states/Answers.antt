@@ -12,7 +12,7 @@ loop-nets-init g c =
           (left c.into_iter-nets-iterator.result) c.args.work.now.states.signs.now _
           (ap left c.into_iter-nets-iterator.ensures.into_iter_gives ∙ c.components-nets-items.ensures)
           c.requires.order c.clear_cells.ensures.hand c.clear_cells-2.ensures.hand c.in_ok-form_sources.ensures.formed,
-      (refl, refl, refl),
+      (refl, refl, refl, refl, refl),
     )
 
 pub loop-nets-preserved : goal.loop-nets-preserved

@@ -16,4 +16,4 @@ loop-device-init g c =
     let sure = first_clear a.ops m ((n + 1) * n) w.sure.now c.clear_cells-2.new.cells
     (omega (arith, w.sure_room, table_fits n 1 c.args.component.formable.few (omega arith))) c.requires.hand.sure
     c.clear_cells-2.ensures.hand c.clear_cells-2.ensures.long c.clear_cells-2.ensures.zero in
-    (filled_none a.ops a.bit m w.states.signs.now c.args.component.nets.now _ _ c.requires.boolean may.hand sure.hand may.zero sure.zero, ((refl, refl, refl), refl))
+    (filled_none a.ops a.bit m w.states.signs.now c.args.component.nets.now _ _ c.requires.boolean may.hand sure.hand may.zero sure.zero, ((refl, refl, refl, refl, refl), refl))
