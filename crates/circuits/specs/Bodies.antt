@@ -1,5 +1,5 @@
 -- The gates and devices that a body holds. Assumes nothing.
-use Rattle.std.specs.Prelude.{List, map, vec_items}
+use Rattle.std.specs.Prelude.{List, map, take, vec_items}
 use Rattle.cell.specs.declared.Device.{Device}
 use Rattle.cell.specs.Circuits.{Gate, Drawn}
 use Rattle.cell.specs.Waiting.{EvaluationOrder}
@@ -9,7 +9,7 @@ use Rattle.circuits.specs.declared.gates.LogicGate.{LogicGate}
 use Rattle.circuits.specs.declared.gates.Gates.{Gates}
 
 abbrev pub gate_held : LogicGate → Gate
-gate_held g = record { kind = g.kind; inputs = g.inputs.items; output = g.output }
+gate_held g = record { kind = g.kind; inputs = take g.count g.inputs; output = g.output }
 
 abbrev pub gates_of : Gates → List Gate
 gates_of b = map gate_held (vec_items b.gates)

@@ -1,7 +1,6 @@
 // The gates of an intended circuit.
 ghost use Rattle.std.specs.Prelude.{◌≤◌, vec_capacity};
 
-use arrayvec::ArrayVec;
 use cell::GateKind;
 
 pub mod body;
@@ -12,11 +11,13 @@ const MOST: usize = 64;
 // The most inputs of a gate.
 const INPUTS: usize = 8;
 
-// A gate: its kind, its inputs and its output.
-#[derive(Clone, Debug, Drop, PartialEq, Eq)]
+// A gate: its kind, its inputs, which are the first of a table, and its output. A count beside an array, since a gate is copied and a
+// list of the kit's is not.
+#[derive(Clone, Copy, Debug, PartialEq, Eq)]
 pub struct LogicGate {
     pub kind: GateKind,
-    pub inputs: ArrayVec<u8, INPUTS>,
+    pub inputs: [u8; INPUTS],
+    pub count: usize,
     pub output: u8,
 }
 

@@ -1,15 +1,14 @@
 // The body records of an intended file.
-ghost use Rattle.std.specs.Prelude.{◌≡◌, ◌≤◌, length};
+ghost use Rattle.std.specs.Prelude.{◌≡◌, ◌+◌, ◌<◌, ◌≤◌, [], ◌∷◌, ◌++◌, length};
 ghost use Rattle.text.specs.Outcomes.{map_ok};
 ghost use Rattle.text.specs.Fields.{fields_left};
 ghost use Rattle.records.specs.Kinds.{gate_kinds, gate_word, gate_takes};
 ghost use Rattle.records.specs.Records.{nets_at, nets_counted};
-ghost use Rattle.records.specs.Shown.{nets_shown, gate_shown};
+ghost use Rattle.records.specs.Shown.{nets_listed, nets_shown, gate_shown};
 
 use crate::fields::read_net;
 use crate::words::Spelled;
-use crate::{GateRecord, NETS, Net};
-use arrayvec::ArrayVec;
+use crate::{GateRecord, NETS, Net, Nets};
 use cell::GateKind;
 use text::fault::{Fault, Reason};
 use text::lines::{Fields, Line};
@@ -48,6 +47,33 @@ impl Spelled for GateKind {
     }
 }
 
+impl<'a> Nets<'a> {
+    fn new() -> Nets<'a>
+        ensures { nets_listed result ≡ [] }
+    {
+        Nets {
+            at: [Net::default(); NETS],
+            count: 0,
+        }
+    }
+
+    fn push(&mut self, net: Net<'a>)
+        requires { self.old.count < 9 }
+        ensures nets { nets_listed self.new ≡ nets_listed self.old ++ net.entry ∷ [] }
+        ensures count { self.new.count ≡ self.old.count + 1 }
+    {
+        self.at[self.count] = net;
+        self.count += 1;
+    }
+
+    pub fn as_slice(&self) -> &[Net<'a>]
+        ensures nets { result.now ≡ nets_listed self.now }
+        ensures few { length result.now ≤ 9 }
+    {
+        &self.at[..self.count]
+    }
+}
+
 // Whether a gate may have so many nets, its inputs and its output.
 fn takes(kind: GateKind, count: usize) -> bool
     ensures { result ≡ gate_takes kind count }
@@ -60,11 +86,11 @@ fn takes(kind: GateKind, count: usize) -> bool
 }
 
 // The fields as nets; the first that is none declines.
-fn read_nets<'a>(line: &Line<'a>, fields: Fields<'a>) -> Result<ArrayVec<Net<'a>, NETS>, Fault>
+fn read_nets<'a>(line: &Line<'a>, fields: Fields<'a>) -> Result<Nets<'a>, Fault>
     requires { length (fields_left fields) ≤ 9 }
-    ensures { map_ok (λ xs. nets_shown xs.items) result ≡ nets_at line.now.number (fields_left fields.entry) }
+    ensures { map_ok (λ xs. nets_shown (nets_listed xs)) result ≡ nets_at line.now.number (fields_left fields.entry) }
 {
-    let mut nets = ArrayVec::new();
+    let mut nets = Nets::new();
     for field in fields {
         nets.push(read_net(line, field)?);
     }
@@ -83,6 +109,7 @@ pub fn read_gate<'a>(
     }
     Ok(GateRecord {
         kind,
+        line: *line,
         nets: read_nets(line, fields)?,
     })
 }

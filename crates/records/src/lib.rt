@@ -2,9 +2,10 @@
 // from the text and shows each with its place, counted in bytes from 0.
 #![tactic(auto)]
 
-use arrayvec::ArrayVec;
+ghost use Rattle.std.specs.Prelude.{◌≡◌, ◌≤◌, length};
+
 use cell::{DeviceKind, GateKind};
-use text::lines::Field;
+use text::lines::{Field, Line};
 
 pub mod devices;
 pub mod fields;
@@ -49,15 +50,25 @@ pub struct DeviceRecord<'a> {
 // The most nets of a record.
 pub const NETS: usize = 9;
 
-// A gate: its inputs, and last its output.
-#[derive(Clone, Debug, Drop, PartialEq, Eq)]
+// The nets of a record. A count beside an array, since a record is copied and a list of the kit's is not.
+#[derive(Clone, Copy, Debug, PartialEq, Eq)]
+pub struct Nets<'a> {
+    at: [Net<'a>; NETS],
+    count: usize,
+    ghost few: { count ≤ 9 },
+    ghost full: { length at ≡ 9 },
+}
+
+// A gate: the line it borrows, and its nets there, the inputs and last the output.
+#[derive(Clone, Copy, Debug, PartialEq, Eq)]
 pub struct GateRecord<'a> {
     pub kind: GateKind,
-    pub nets: ArrayVec<Net<'a>, NETS>,
+    pub line: Line<'a>,
+    pub nets: Nets<'a>,
 }
 
 // A record of either file; B is the body's.
-#[derive(Clone, Debug, Drop, PartialEq, Eq)]
+#[derive(Clone, Copy, Debug, Drop, PartialEq, Eq)]
 pub enum Record<'a, B> {
     Cell(Field<'a>),
     In(Net<'a>),

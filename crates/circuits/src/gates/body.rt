@@ -6,8 +6,7 @@ ghost use Rattle.records.specs.Shown.{gate_shown, nets_shown};
 ghost use Rattle.files.specs.Files.{intended_format, gate_from, driven, is_known, gate_barred};
 ghost use Rattle.circuits.specs.Bodies.{gate_held, gates_of};
 
-use super::{Gates, LogicGate, MOST};
-use arrayvec::ArrayVec;
+use super::{Gates, INPUTS, LogicGate, MOST};
 use cell::{GateKind, is_rail};
 use reader::body::Body;
 use records::gates::read_gate;
@@ -26,13 +25,14 @@ fn gate_of(kind: GateKind, nets: &[Net<'_>]) -> LogicGate
     let Some((output, others)) = nets.split_last() else {
         unreachable!()
     };
-    let mut inputs = ArrayVec::new();
-    for net in others {
-        inputs.push(net.value);
+    let mut inputs = [0; INPUTS];
+    for (i, net) in others.iter().enumerate() {
+        inputs[i] = net.value;
     }
     LogicGate {
         kind,
         inputs,
+        count: others.len(),
         output: output.value,
     }
 }
@@ -112,10 +112,11 @@ impl<'a> Body<'a> for Gates {
         if self.gates.len() >= MOST {
             return Err(line.fault(Reason::TooManyRecords));
         }
-        if let Some(place) = self.barred(ins, &item.nets) {
+        let nets = item.nets.as_slice();
+        if let Some(place) = self.barred(ins, nets) {
             return Err(line.fault_at(Reason::NetNotAllowed, place));
         }
-        self.gates.push_reserved(gate_of(item.kind, &item.nets));
+        self.gates.push_reserved(gate_of(item.kind, nets));
         Ok(())
     }
 
